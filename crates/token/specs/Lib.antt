@@ -1,0 +1,2 @@
+pub mod SecondsLeft
+pub mod Good
