@@ -3,7 +3,6 @@
 // Whether the token's signature holds is the host's verdict; here only its expiry counts.
 ghost use mathlib.Core.Path.{_≡_};
 ghost use Rattle.token.specs.SecondsLeft.{secondsLeft};
-ghost use Rattle.token.specs.SecondsLeft.{clamped as SecondsLeft·clamped};
 ghost use Rattle.token.specs.Good.{goodSeconds};
 
 const DAY: i64 = 86_400;
@@ -26,20 +25,7 @@ pub fn seconds_left(expiry: i64, now: i64) -> i64
     } else if now < expiry - LARGEST {
         return DAY;
     }
-    clamped(expiry - now)
-}
-
-// The seconds left of a good token, which are the DAT timer's length; 0 for a bad one.
-pub fn good_seconds(verdict: bool, expiry: i64, now: i64) -> u32
-    ensures { λ r. ⌜ r ≡ goodSeconds verdict expiry now ⌝ }
-{
-    let left = seconds_left(expiry, now);
-    if verdict && 1 <= left { left as u32 } else { 0 }
-}
-
-fn clamped(left: i64) -> i64
-    ensures { λ r. ⌜ r ≡ SecondsLeft·clamped left ⌝ }
-{
+    let left = expiry - now;
     if left < MINUS_DAY {
         return MINUS_DAY;
     }
@@ -47,4 +33,12 @@ fn clamped(left: i64) -> i64
         return DAY;
     }
     left
+}
+
+// The seconds left of a good token, which are the DAT timer's length; 0 for a bad one.
+pub fn good_seconds(verdict: bool, expiry: i64, now: i64) -> u32
+    ensures { λ r. ⌜ r ≡ goodSeconds verdict (secondsLeft expiry now) ⌝ }
+{
+    let left = seconds_left(expiry, now);
+    if verdict && 1 <= left { left as u32 } else { 0 }
 }

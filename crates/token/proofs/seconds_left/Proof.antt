@@ -1,98 +1,91 @@
--- `token::seconds_left` meets its contract. With a day and a machine word as naturals, each test and range is omega's.
-use mathlib.Core.Path.{_≡_, refl, sym, ap, _∙_}
-use mathlib.Core.Bool.{Bool, true, false}
+-- `token::seconds_left` meets its contract.
+use mathlib.Core.Path.{_≡_, subst, _∙_}
 use mathlib.Core.Logic.{⊎-elim}
-use Prim.Native.Nat.{ℕ, _+_, _<_, _≤_, _^_}
+use Prim.Native.Nat.{_+_, _<_}
 use native.Mathlib.Omega.{arith}
-use borrow.Author.Needs.{needs}
-use borrow.Author.Tests.{ltb-true, ltb-false, lt-ltb, le-ltb}
+use borrow.Author.Tests.{lt-ltb, le-ltb}
 use lib.IntN.{ℤ, pos, negsuc, negℤ, _-ℤ_}
 use mir.Syntax.{w64}
-use mir.Val.{SFits, toZ, ofZ}
+use mir.Val.{toZ, ofZ}
 use mir.Facts.{toZ-ofZ}
 use Rattle.token.specs.SecondsLeft.{day, clamped, secondsLeft}
-use Rattle.token.proofs.Difference.{Diff, test, was-less, was-not-less, minus, fits, read, raised, raised-diff, raised-below}
+use Rattle.token.proofs.Difference.{Diff, above, below, parts, test, less, not-less, minus, fits, fitted, held}
 use Rattle.token.proofs.seconds_left.Statement.{statement}
 use Rattle.token.proofs.seconds_left.Tie as tie
 
-zero-is : Diff (pos 0) 0 0
-zero-is = omega arith
+module _ (e n : ℤ) where
+  left : Diff (e -ℤ n) (above e + below n) (below e + above n)
+  left = minus (parts e) (parts n)
 
-day-is : Diff day 86400 0
-day-is = omega arith
-
-minus-day-is : Diff (negℤ day) 0 86400
-minus-day-is = omega arith
-
-largest-is : Diff (pos 9223372036854775807) 9223372036854775807 0
-largest-is = omega arith
-
-smallest-is : Diff (negsuc 9223372036854775807) 0 9223372036854775808
-smallest-is = omega arith
-
-module _ (s : tie.Start) where
-  abbrev E : ℕ
-  E = raised (s .args .expiry)
-
-  abbrev N : ℕ
-  N = raised (s .args .now)
-
-  expiry-is : Diff (toZ w64 (ofZ w64 (s .args .expiry))) E (2 ^ 63)
-  expiry-is = read (raised-diff (s .fits .expiry)) (s .fits .expiry)
-
-  now-is : Diff (toZ w64 (ofZ w64 (s .args .now))) N (2 ^ 63)
-  now-is = read (raised-diff (s .fits .now)) (s .fits .now)
-
-  left-is : Diff (s .args .expiry -ℤ s .args .now) (E + 2 ^ 63) (2 ^ 63 + N)
-  left-is = minus (raised-diff (s .fits .expiry)) (raised-diff (s .fits .now))
-
-  low : E + 86400 < N → negℤ day ≡ secondsLeft (s .args .expiry) (s .args .now)
+  low : above e + below n + 86400 < below e + above n → negℤ day ≡ secondsLeft e n
   unfolding secondsLeft
-  low h = rw (test left-is minus-day-is, lt-ltb (E + 2 ^ 63 + 86400) (0 + (2 ^ 63 + N)) (omega arith))
+  low h = rw (test left (parts (negℤ day)), lt-ltb (above e + below n + 86400) (0 + (below e + above n)) (omega arith))
 
-  high : N + 86400 < E → day ≡ secondsLeft (s .args .expiry) (s .args .now)
+  high : below e + above n + 86400 < above e + below n → day ≡ secondsLeft e n
   unfolding secondsLeft
   high h =
-      rw (test left-is minus-day-is, le-ltb (E + 2 ^ 63 + 86400) (0 + (2 ^ 63 + N)) (omega arith), test day-is left-is, lt-ltb (86400 + (2 ^ 63 + N)) (E + 2 ^ 63 + 0) (omega arith))
+      rw (test left (parts (negℤ day)), le-ltb (above e + below n + 86400) (0 + (below e + above n)) (omega arith), test (parts day) left, lt-ltb (86400 + (below e + above n)) (above e + below n + 0) (omega arith))
+
+-- What the code reads: the arguments, and the difference that 64 bits surely hold.
+module _ (s : tie.Start) where
+  expiry : Diff (toZ w64 (ofZ w64 (s .args .expiry))) (above (s .args .expiry)) (below (s .args .expiry))
+  expiry = held (parts (s .args .expiry)) (s .fits .expiry)
+
+  now : Diff (toZ w64 (ofZ w64 (s .args .now))) (above (s .args .now)) (below (s .args .now))
+  now = held (parts (s .args .now)) (s .fits .now)
+
+smallest : Diff (negsuc 9223372036854775807) 0 9223372036854775808
+smallest = omega arith
+
+largest : Diff (pos 9223372036854775807) 9223372036854775807 0
+largest = omega arith
 
 sub-if2 : tie.Need-sub-if2
 sub-if2 c =
     let s = c .before in
-    fits (minus (expiry-is s) smallest-is) (omega (arith, was-less (expiry-is s) zero-is (c .if1 .taken))) (omega arith)
+    fits (minus (expiry s) smallest) (omega (arith, less (expiry s) (parts (pos 0)) (c .if1 .taken))) (omega (arith, fitted (s .fits .expiry)))
 
 returns : tie.Need-returns
 returns c =
     let s = c .before .before in
-    low s (omega (arith, was-less (read (minus (expiry-is s) smallest-is) (sub-if2 (c .before))) (now-is s) (c .if2 .taken)))
+    low _ _ (omega (arith, less (held (minus (expiry s) smallest) (sub-if2 (c .before))) (now s) (c .if2 .taken)))
 
 sub-if3 : tie.Need-sub-if3
 sub-if3 c =
     let s = c .before in
-    fits (minus (expiry-is s) largest-is) (omega (arith, raised-below (s .fits .expiry))) (omega (arith, was-not-less (expiry-is s) zero-is (c .if1 .left)))
+    fits (minus (expiry s) largest) (omega (arith, fitted (s .fits .expiry))) (omega (arith, not-less (expiry s) (parts (pos 0)) (c .if1 .left)))
 
 returns-2 : tie.Need-returns-2
 returns-2 c =
     let s = c .before .before in
-    high s (omega (arith, was-less (now-is s) (read (minus (expiry-is s) largest-is) (sub-if3 (c .before))) (c .if3 .taken)))
+    high _ _ (omega (arith, less (now s) (held (minus (expiry s) largest) (sub-if3 (c .before))) (c .if3 .taken)))
 
-sub-clamped : tie.Need-sub-clamped
-sub-clamped c =
+sub-left : tie.Need-sub-left
+sub-left c =
     let s = c .before in
-    let left = minus (expiry-is s) (now-is s) in
+    let difference = minus (expiry s) (now s) in
     ⊎-elim
-    (λ w. fits left (omega (arith, was-less (expiry-is s) zero-is (w .0 .taken))) (omega (arith, was-not-less (read (minus (expiry-is s) smallest-is) (sub-if2 record { before = s; if1 = w .0 })) (now-is s) (w .1 .left))))
-    (λ w. fits left (omega (arith, was-not-less (now-is s) (read (minus (expiry-is s) largest-is) (sub-if3 record { before = s; if1 = w .0 })) (w .1 .left))) (omega (arith, was-not-less (expiry-is s) zero-is (w .0 .left), raised-below (s .fits .now))))
+    (λ w. fits difference (omega (arith, less (expiry s) (parts (pos 0)) (w .0 .taken), fitted (s .fits .now))) (omega (arith, not-less (held (minus (expiry s) smallest) (sub-if2 record { before = s; if1 = w .0 })) (now s) (w .1 .left))))
+    (λ w. fits difference (omega (arith, not-less (now s) (held (minus (expiry s) largest) (sub-if3 record { before = s; if1 = w .0 })) (w .1 .left))) (omega (arith, not-less (expiry s) (parts (pos 0)) (w .0 .left), fitted (s .fits .now))))
     (c .if1 .came)
 
-clamped-requires : tie.Need-clamped-requires
-clamped-requires c κs = search needs
+exact : (c : tie.Joined1) → let a = c .before .args in toZ w64 (ofZ w64 (toZ w64 (ofZ w64 (a .expiry)) -ℤ toZ w64 (ofZ w64 (a .now)))) ≡ a .expiry -ℤ a .now
+exact c = toZ-ofZ (sub-left c) ∙ (λ i. toZ-ofZ (c .before .fits .expiry) i -ℤ toZ-ofZ (c .before .fits .now) i)
 
 returns-3 : tie.Need-returns-3
 unfolding secondsLeft
-returns-3 c =
-    let s = c .before .before in
-    toZ-ofZ (record { sfits = c .clamped .ok }) ∙ c .clamped .ensures ∙ ap clamped (toZ-ofZ (sub-clamped (c .before)) ∙ (λ i. toZ-ofZ (s .fits .expiry) i -ℤ toZ-ofZ (s .fits .now) i))
+returns-3 c = subst (λ (z : ℤ). negℤ day ≡ clamped z) (exact (c .before)) (rw (c .if4 .taken))
+
+returns-4 : tie.Need-returns-4
+unfolding secondsLeft
+returns-4 c = subst (λ (z : ℤ). day ≡ clamped z) (exact (c .before .before)) (rw (c .before .if4 .left, c .if5 .taken))
+
+returns-5 : tie.Need-returns-5
+unfolding secondsLeft
+returns-5 c =
+    let same = exact (c .before .before) in
+    same ∙ subst (λ (z : ℤ). z ≡ clamped z) same (rw (c .before .if4 .left, c .if5 .left))
 
 pub seconds-left-spec : {M : Type 1} → statement M
 seconds-left-spec =
-    tie.close (tie.spec sub-if2 returns sub-if3 returns-2 sub-clamped clamped-requires returns-3)
+    tie.close (tie.spec sub-if2 returns sub-if3 returns-2 sub-left returns-3 returns-4 returns-5)
