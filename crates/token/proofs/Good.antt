@@ -28,5 +28,5 @@ lasting expiry now = clamped-lasting (expiry -ℤ now) _ _ refl refl
 pub good-is-positive : (verdict : Bool) (left : ℤ) → ltb 0 (goodSeconds verdict left) ≡ good verdict left
 good-is-positive false left = refl
 good-is-positive true (pos zero) = refl
-good-is-positive true (pos (suc n)) = rw (le-leb 1 (suc n) (omega arith))
+good-is-positive true (pos (suc n)) = let one = le-leb 1 (suc n) (omega arith) in rw one one
 good-is-positive true (negsuc n) = refl
