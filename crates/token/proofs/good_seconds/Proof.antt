@@ -24,9 +24,6 @@ module _ (c : tie.After-seconds-left) where
   answer : (r : ℕ) → r ≡ goodSeconds (c .before .args .verdict) (toZ w64 (ofZ w64 (c .seconds-left .result))) → r ≡ goodSeconds (c .before .args .verdict) (secondsLeft (c .before .args .expiry) (c .before .args .now))
   answer r = subst (λ (z : ℤ). r ≡ goodSeconds (c .before .args .verdict) z) left-is
 
-seconds-left-requires : tie.Need-seconds-left-requires
-seconds-left-requires c κs = search needs
-
 cast-result : tie.Need-cast-result
 cast-result c =
     let same = left-is (c .before .before) in
@@ -44,4 +41,4 @@ returns-2 c =
     (c .if1 .came)
 
 pub good-seconds-spec : {M : Type 1} → statement M
-good-seconds-spec = tie.close (tie.spec seconds-left-requires cast-result returns returns-2)
+good-seconds-spec = tie.close (tie.spec (λ c κs. search needs) cast-result returns returns-2)

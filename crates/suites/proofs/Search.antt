@@ -1,0 +1,23 @@
+-- How the first entry that passes a test is searched for, from one entry to the next.
+use mathlib.Core.Path.{_≡_, refl}
+use mathlib.Core.Bool.{Bool, true, false}
+use mathlib.Core.List.{List}
+use Prim.Native.Nat.{ℕ, _+_, _<_, _≤_}
+use native.Mathlib.Numerals.{add-one}
+use lib.ListN.{length, getD, drop, drop-of-length-le}
+use lib.Seq.{drop-cons}
+use Rattle.suites.specs.Answer.{foundSuite, notFound}
+use Rattle.suites.specs.Choice.{firstThat}
+
+module _ (passes : ℕ → Bool) (list : List ℕ) (i : ℕ) where
+  pub here : i < length list → passes (getD list i 0) ≡ true → firstThat passes (drop i list) ≡ foundSuite (getD list i 0)
+  unfolding firstThat
+  here h t = rw (drop-cons list i 0 h, t)
+
+  pub later : i < length list → passes (getD list i 0) ≡ false → firstThat passes (drop i list) ≡ firstThat passes (drop (i + 1) list)
+  unfolding firstThat
+  later h t = rw (add-one, drop-cons list i 0 h, t)
+
+  pub over : length list ≤ i → firstThat passes (drop i list) ≡ notFound
+  unfolding firstThat
+  over h = rw (drop-of-length-le list {i = i} h)

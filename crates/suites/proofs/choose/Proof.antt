@@ -1,0 +1,17 @@
+-- `suites::choose` meets its contract.
+use mathlib.Core.Path.{_≡_}
+use borrow.Author.Needs.{needs}
+use Rattle.suites.specs.Choice.{choice}
+use Rattle.suites.proofs.choose.Statement.{statement}
+use Rattle.suites.proofs.choose.Tie as tie
+
+returns : tie.Need-returns
+unfolding choice
+returns c = rw (c .if1 .taken)
+
+returns-2 : tie.Need-returns-2
+unfolding choice
+returns-2 c = rw (c .before .before .if1 .left, c .before .first-common .ensures, c .first-common2 .ensures)
+
+pub choose-spec : {M : Type 1} → statement M
+choose-spec = tie.close (tie.spec returns (λ c κs. search needs) (λ c κs. search needs) returns-2)
