@@ -1,0 +1,37 @@
+// A case on a line of standard output: its label, then numbers, each after a space.
+use libc::STDOUT_FILENO;
+
+const MINUS_ONE: i64 = -1;
+
+pub fn heading(s: &[u8]) {
+    text(s);
+    text(b"\n");
+}
+
+pub fn label(s: &[u8]) {
+    text(b"  ");
+    text(s);
+    text(b":");
+}
+
+pub fn number(n: u64) {
+    text(b" ");
+    io::print_decimal(STDOUT_FILENO, n);
+}
+
+pub fn signed(z: i64) {
+    if z < 0 {
+        text(b" -");
+        io::print_decimal(STDOUT_FILENO, (MINUS_ONE - z) as u64 + 1);
+    } else {
+        number(z as u64);
+    }
+}
+
+pub fn end_line() {
+    text(b"\n");
+}
+
+fn text(s: &[u8]) {
+    io::write_all(STDOUT_FILENO, s);
+}
