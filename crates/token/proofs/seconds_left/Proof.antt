@@ -45,20 +45,10 @@ sub-if2 c =
     let s = c .before in
     fits (minus (expiry s) smallest) (omega (arith, less (expiry s) (parts (pos 0)) (c .if1 .taken))) (omega (arith, fitted (s .fits .expiry)))
 
-returns : tie.Need-returns
-returns c =
-    let s = c .before .before in
-    low _ _ (omega (arith, less (held (minus (expiry s) smallest) (sub-if2 (c .before))) (now s) (c .if2 .taken)))
-
 sub-if3 : tie.Need-sub-if3
 sub-if3 c =
     let s = c .before in
     fits (minus (expiry s) largest) (omega (arith, fitted (s .fits .expiry))) (omega (arith, not-less (expiry s) (parts (pos 0)) (c .if1 .left)))
-
-returns-2 : tie.Need-returns-2
-returns-2 c =
-    let s = c .before .before in
-    high _ _ (omega (arith, less (now s) (held (minus (expiry s) largest) (sub-if3 (c .before))) (c .if3 .taken)))
 
 sub-left : tie.Need-sub-left
 sub-left c =
@@ -68,6 +58,16 @@ sub-left c =
     (λ w. fits difference (omega (arith, less (expiry s) (parts (pos 0)) (w .0 .taken), fitted (s .fits .now))) (omega (arith, not-less (held (minus (expiry s) smallest) (sub-if2 record { before = s; if1 = w .0 })) (now s) (w .1 .left))))
     (λ w. fits difference (omega (arith, not-less (now s) (held (minus (expiry s) largest) (sub-if3 record { before = s; if1 = w .0 })) (w .1 .left))) (omega (arith, not-less (expiry s) (parts (pos 0)) (w .0 .left), fitted (s .fits .now))))
     (c .if1 .came)
+
+returns : tie.Need-returns
+returns c =
+    let s = c .before .before in
+    low _ _ (omega (arith, less (held (minus (expiry s) smallest) (sub-if2 (c .before))) (now s) (c .if2 .taken)))
+
+returns-2 : tie.Need-returns-2
+returns-2 c =
+    let s = c .before .before in
+    high _ _ (omega (arith, less (now s) (held (minus (expiry s) largest) (sub-if3 (c .before))) (c .if3 .taken)))
 
 exact : (c : tie.Joined1) → let a = c .before .args in toZ w64 (ofZ w64 (toZ w64 (ofZ w64 (a .expiry)) -ℤ toZ w64 (ofZ w64 (a .now)))) ≡ a .expiry -ℤ a .now
 exact c = toZ-ofZ (sub-left c) ∙ (λ i. toZ-ofZ (c .before .fits .expiry) i -ℤ toZ-ofZ (c .before .fits .now) i)
