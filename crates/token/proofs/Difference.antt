@@ -36,17 +36,25 @@ same-test : (n m p q : ℕ) (t : Bool) → ltb p q ≡ t → n + q ≡ m + p →
 same-test n m p q true h e = lt-ltb n m (omega (arith, ltb-true))
 same-test n m p q false h e = le-ltb n m (omega (arith, ltb-false))
 
-pub test : {x y : ℤ} {a b c d : ℕ} → Diff x a b → Diff y c d → ltZ x y ≡ ltb (a + d) (c + b)
+test : {x y : ℤ} {a b c d : ℕ} → Diff x a b → Diff y c d → ltZ x y ≡ ltb (a + d) (c + b)
 test {x = pos n} {y = pos m} {a} {b} {c} {d} p q = same-test n m (a + d) (c + b) _ refl (omega arith)
 test {x = pos n} {y = negsuc m} {a} {b} {c} {d} p q = sym (le-ltb (a + d) (c + b) (omega arith))
 test {x = negsuc n} {y = pos m} {a} {b} {c} {d} p q = sym (lt-ltb (a + d) (c + b) (omega arith))
 test {x = negsuc n} {y = negsuc m} {a} {b} {c} {d} p q = same-test m n (a + d) (c + b) _ refl (omega arith)
 
-pub less : {x y : ℤ} {a b c d : ℕ} → Diff x a b → Diff y c d → ltZ x y ≡ true → a + d < c + b
-less {a} {b} {c} {d} p q h = ltb-true (a + d) (c + b) (sym (test p q) ∙ h)
+-- What a test tells, and what tells a test's value.
+module _ {x y : ℤ} {a b c d : ℕ} (p : Diff x a b) (q : Diff y c d) where
+  pub less : ltZ x y ≡ true → a + d < c + b
+  less h = ltb-true (a + d) (c + b) (sym (test p q) ∙ h)
 
-pub not-less : {x y : ℤ} {a b c d : ℕ} → Diff x a b → Diff y c d → ltZ x y ≡ false → c + b ≤ a + d
-not-less {a} {b} {c} {d} p q h = ltb-false (a + d) (c + b) (sym (test p q) ∙ h)
+  pub not-less : ltZ x y ≡ false → c + b ≤ a + d
+  not-less h = ltb-false (a + d) (c + b) (sym (test p q) ∙ h)
+
+  pub is-less : a + d < c + b → ltZ x y ≡ true
+  is-less h = test p q ∙ lt-ltb (a + d) (c + b) h
+
+  pub is-not-less : c + b ≤ a + d → ltZ x y ≡ false
+  is-not-less h = test p q ∙ le-ltb (a + d) (c + b) h
 
 gap : (t : Bool) (n m a b : ℕ) → ltb n m ≡ t → n + b ≡ a + m → Diff (cond t (negsuc (m - suc n)) (pos (n - m))) a b
 gap true n m a b h e = omega (arith, ltb-true)

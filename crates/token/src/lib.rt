@@ -9,20 +9,16 @@ const DAY: i64 = 86_400;
 
 const MINUS_DAY: i64 = -86_400;
 
-const LARGEST: i64 = 9_223_372_036_854_775_807;
-
-const SMALLEST: i64 = -9_223_372_036_854_775_808;
-
 // Expiry minus now, worked out exactly, then clamped to a day either way.
-// A difference outside 64 bits is more than a day, and is found by comparing before subtracting.
+// Times further apart than 64 bits can tell are found by comparing before subtracting.
 pub fn seconds_left(expiry: i64, now: i64) -> i64
     ensures { λ r. ⌜ r ≡ secondsLeft expiry now ⌝ }
 {
     if expiry < 0 {
-        if expiry - SMALLEST < now {
+        if expiry - MINUS_DAY < now {
             return MINUS_DAY;
         }
-    } else if now < expiry - LARGEST {
+    } else if now < expiry - DAY {
         return DAY;
     }
     let left = expiry - now;

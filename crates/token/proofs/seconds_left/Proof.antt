@@ -1,32 +1,18 @@
 -- `token::seconds_left` meets its contract.
 use mathlib.Core.Path.{_≡_, subst, _∙_}
 use mathlib.Core.Logic.{⊎-elim}
-use Prim.Native.Nat.{_+_, _<_}
+use Prim.Native.Nat.{_+_}
 use native.Mathlib.Omega.{arith}
-use borrow.Author.Tests.{lt-ltb, le-ltb}
-use lib.IntN.{ℤ, pos, negsuc, negℤ, _-ℤ_}
+use lib.IntN.{ℤ, pos, negℤ, _-ℤ_}
 use mir.Syntax.{w64}
 use mir.Val.{toZ, ofZ}
 use mir.Facts.{toZ-ofZ}
 use Rattle.token.specs.SecondsLeft.{day, clamped, secondsLeft}
-use Rattle.token.proofs.Difference.{Diff, above, below, parts, test, less, not-less, minus, fits, fitted, held}
+use Rattle.token.proofs.Difference.{Diff, above, below, parts, less, not-less, is-less, is-not-less, minus, fits, fitted, held}
 use Rattle.token.proofs.seconds_left.Statement.{statement}
 use Rattle.token.proofs.seconds_left.Tie as tie
 
-module _ (e n : ℤ) where
-  left : Diff (e -ℤ n) (above e + below n) (below e + above n)
-  left = minus (parts e) (parts n)
-
-  low : above e + below n + 86400 < below e + above n → negℤ day ≡ secondsLeft e n
-  unfolding secondsLeft
-  low h = rw (test left (parts (negℤ day)), lt-ltb (above e + below n + 86400) (0 + (below e + above n)) (omega arith))
-
-  high : below e + above n + 86400 < above e + below n → day ≡ secondsLeft e n
-  unfolding secondsLeft
-  high h =
-      rw (test left (parts (negℤ day)), le-ltb (above e + below n + 86400) (0 + (below e + above n)) (omega arith), test (parts day) left, lt-ltb (86400 + (below e + above n)) (above e + below n + 0) (omega arith))
-
--- What the code reads: the arguments, and the difference that 64 bits surely hold.
+-- The arguments as the code reads them, and what is to be clamped.
 module _ (s : tie.Start) where
   expiry : Diff (toZ w64 (ofZ w64 (s .args .expiry))) (above (s .args .expiry)) (below (s .args .expiry))
   expiry = held (parts (s .args .expiry)) (s .fits .expiry)
@@ -34,40 +20,50 @@ module _ (s : tie.Start) where
   now : Diff (toZ w64 (ofZ w64 (s .args .now))) (above (s .args .now)) (below (s .args .now))
   now = held (parts (s .args .now)) (s .fits .now)
 
-smallest : Diff (negsuc 9223372036854775807) 0 9223372036854775808
-smallest = omega arith
-
-largest : Diff (pos 9223372036854775807) 9223372036854775807 0
-largest = omega arith
+  left : Diff (s .args .expiry -ℤ s .args .now) (above (s .args .expiry) + below (s .args .now)) (below (s .args .expiry) + above (s .args .now))
+  left = minus (parts (s .args .expiry)) (parts (s .args .now))
 
 sub-if2 : tie.Need-sub-if2
 sub-if2 c =
     let s = c .before in
-    fits (minus (expiry s) smallest) (omega (arith, less (expiry s) (parts (pos 0)) (c .if1 .taken))) (omega (arith, fitted (s .fits .expiry)))
+    let negative = less (expiry s) (parts (pos 0)) (c .if1 .taken) in
+    fits (minus (expiry s) (parts (negℤ day))) (omega arith) (omega (arith, fitted (s .fits .expiry)))
 
 sub-if3 : tie.Need-sub-if3
 sub-if3 c =
     let s = c .before in
-    fits (minus (expiry s) largest) (omega (arith, fitted (s .fits .expiry))) (omega (arith, not-less (expiry s) (parts (pos 0)) (c .if1 .left)))
+    let natural = not-less (expiry s) (parts (pos 0)) (c .if1 .left) in
+    fits (minus (expiry s) (parts day)) (omega (arith, fitted (s .fits .expiry))) (omega arith)
 
 sub-left : tie.Need-sub-left
 sub-left c =
     let s = c .before in
+    let bounds = fitted (s .fits .now) in
     let difference = minus (expiry s) (now s) in
     ⊎-elim
-    (λ w. fits difference (omega (arith, less (expiry s) (parts (pos 0)) (w .0 .taken), fitted (s .fits .now))) (omega (arith, not-less (held (minus (expiry s) smallest) (sub-if2 record { before = s; if1 = w .0 })) (now s) (w .1 .left))))
-    (λ w. fits difference (omega (arith, not-less (now s) (held (minus (expiry s) largest) (sub-if3 record { before = s; if1 = w .0 })) (w .1 .left))) (omega (arith, not-less (expiry s) (parts (pos 0)) (w .0 .left), fitted (s .fits .now))))
+    (λ w.
+    let negative = less (expiry s) (parts (pos 0)) (w .0 .taken) in
+    let near = not-less (held (minus (expiry s) (parts (negℤ day))) (sub-if2 record { before = s; if1 = w .0 })) (now s) (w .1 .left) in
+    fits difference (omega arith) (omega arith))
+    (λ w.
+    let natural = not-less (expiry s) (parts (pos 0)) (w .0 .left) in
+    let near = not-less (now s) (held (minus (expiry s) (parts day)) (sub-if3 record { before = s; if1 = w .0 })) (w .1 .left) in
+    fits difference (omega arith) (omega arith))
     (c .if1 .came)
 
 returns : tie.Need-returns
+unfolding secondsLeft
 returns c =
     let s = c .before .before in
-    low _ _ (omega (arith, less (held (minus (expiry s) smallest) (sub-if2 (c .before))) (now s) (c .if2 .taken)))
+    let far = less (held (minus (expiry s) (parts (negℤ day))) (sub-if2 (c .before))) (now s) (c .if2 .taken) in
+    rw (is-less (left s) (parts (negℤ day)) (omega arith))
 
 returns-2 : tie.Need-returns-2
+unfolding secondsLeft
 returns-2 c =
     let s = c .before .before in
-    high _ _ (omega (arith, less (now s) (held (minus (expiry s) largest) (sub-if3 (c .before))) (c .if3 .taken)))
+    let far = less (now s) (held (minus (expiry s) (parts day)) (sub-if3 (c .before))) (c .if3 .taken) in
+    rw (is-not-less (left s) (parts (negℤ day)) (omega arith), is-less (parts day) (left s) (omega arith))
 
 exact : (c : tie.Joined1) → let a = c .before .args in toZ w64 (ofZ w64 (toZ w64 (ofZ w64 (a .expiry)) -ℤ toZ w64 (ofZ w64 (a .now)))) ≡ a .expiry -ℤ a .now
 exact c = toZ-ofZ (sub-left c) ∙ (λ i. toZ-ofZ (c .before .fits .expiry) i -ℤ toZ-ofZ (c .before .fits .now) i)
