@@ -7,17 +7,17 @@ use native.Mathlib.Numerals.{add-one}
 use lib.ListN.{length, getD, drop, drop-of-length-le}
 use lib.Seq.{drop-cons}
 use Rattle.suites.specs.Answer.{foundSuite, notFound}
-use Rattle.suites.specs.Choice.{firstThat}
+use Rattle.suites.specs.Choice.{find}
 
 module _ (passes : ℕ → Bool) (list : List ℕ) (i : ℕ) where
-  pub here : i < length list → passes (getD list i 0) ≡ true → firstThat passes (drop i list) ≡ foundSuite (getD list i 0)
-  unfolding firstThat
+  pub here : i < length list → passes (getD list i 0) ≡ true → find passes (drop i list) ≡ foundSuite (getD list i 0)
+  unfolding find
   here h t = rw (drop-cons list i 0 h, t)
 
-  pub later : i < length list → passes (getD list i 0) ≡ false → firstThat passes (drop i list) ≡ firstThat passes (drop (i + 1) list)
-  unfolding firstThat
+  pub later : i < length list → passes (getD list i 0) ≡ false → find passes (drop i list) ≡ find passes (drop (i + 1) list)
+  unfolding find
   later h t = rw (add-one, drop-cons list i 0 h, t)
 
-  pub over : length list ≤ i → firstThat passes (drop i list) ≡ notFound
-  unfolding firstThat
+  pub over : length list ≤ i → find passes (drop i list) ≡ notFound
+  unfolding find
   over h = rw (drop-of-length-le list {i = i} h)

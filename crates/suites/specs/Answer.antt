@@ -1,4 +1,4 @@
--- Document 01, "Shortcuts that look right": what the suite choice answers when asked alone, in the paper's numbers.
+-- Document 01, "Shortcuts that look right": what the suite choice answers when asked alone, in the paper's values.
 use Prim.Native.Nat.{ℕ}
 use mathlib.Core.Bool.{Bool, true, false}
 
@@ -7,14 +7,15 @@ pub record Found : Type 0 where
   pub found : Bool
   pub suite : ℕ
 
+-- A suite that was found.
 abbrev pub foundSuite : ℕ → Found
 foundSuite number = record { found = true; suite = number }
 
--- 0 if not found.
+-- None was found: 0 for its number.
 abbrev pub notFound : Found
 notFound = record { found = false; suite = 0 }
 
--- The refusal, 0 for none, and both suites.
+-- A refusal's number, 0 for none, and both suites.
 pub record Answer : Type 0 where
   pub refusal : ℕ
   pub verifier : Found
@@ -24,5 +25,6 @@ pub record Answer : Type 0 where
 abbrev pub refused : Answer
 refused = record { refusal = 6; verifier = notFound; prover = notFound }
 
+-- No refusal, with what was found for each.
 abbrev pub chosen : Found → Found → Answer
 chosen v p = record { refusal = 0; verifier = v; prover = p }

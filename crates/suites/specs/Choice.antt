@@ -1,4 +1,4 @@
--- Document 01, "Tokens and suites": the choice of suites, over the four lists.
+-- Document 01, "Tokens and suites": the choice of suites, over four lists of 32-bit numbers.
 use Prim.Native.Nat.{ℕ}
 use mathlib.Core.Bool.{Bool, cond, _||_}
 use mathlib.Core.List.{List, [], _∷_}
@@ -6,24 +6,24 @@ use lib.ListN.{length}
 use lib.Dec.{eqb, ltb}
 use Rattle.suites.specs.Answer.{Found, foundSuite, notFound, Answer, refused, chosen}
 
--- The first entry of a list that passes a test.
-unfoldable pub firstThat : (ℕ → Bool) → List ℕ → Found
-firstThat passes [] = notFound
-firstThat passes (entry ∷ list) = cond (passes entry) (foundSuite entry) (firstThat passes list)
+-- The first entry of a list that passes a test. Repeats are allowed; an empty list finds nothing.
+unfoldable pub find : (ℕ → Bool) → List ℕ → Found
+find passes [] = notFound
+find passes (entry ∷ list) = cond (passes entry) (foundSuite entry) (find passes list)
 
--- A suite is found anywhere in a list.
+-- Whether a suite is found anywhere in a list.
 abbrev pub foundIn : List ℕ → ℕ → Bool
-foundIn list suite = firstThat (eqb suite) list .found
+foundIn list suite = find (eqb suite) list .found
 
 -- The first entry of one list found anywhere in another.
 abbrev pub firstFound : List ℕ → List ℕ → Found
-firstFound list other = firstThat (foundIn other) list
+firstFound list other = find (foundIn other) list
 
--- The fault of refusal 6: a list of more than 16 entries.
+-- Whether a list has more than 16 entries.
 abbrev pub tooLong : List ℕ → Bool
 tooLong list = ltb 16 (length list)
 
--- One of the four lists has that fault.
+-- The fault of refusal 6, in any of the four lists.
 abbrev pub anyTooLong : List ℕ → List ℕ → List ℕ → List ℕ → Bool
 anyTooLong ourVerifiers peerProvers peerVerifiers ourProvers =
     tooLong ourVerifiers || tooLong peerProvers || tooLong peerVerifiers || tooLong ourProvers

@@ -1,16 +1,16 @@
--- Document 01's numbers and values for each case of the enums that the code answers.
+-- Document 01's numbers and values for each case of the enums that the code answers with.
 use Rattle.suites.specs.Answer.{Found, foundSuite, notFound, Answer, refused, chosen}
 use Rattle.suites.specs.declared.Common.{Common}
 use Rattle.suites.specs.declared.Common.the-variants.{Suite, Nothing}
 use Rattle.suites.specs.declared.Choice.{Choice}
 use Rattle.suites.specs.declared.Choice.the-variants.{TooLong, Chosen}
 
--- A suite's enum.
+-- What two lists have in common, in document 01's values.
 abbrev pub foundOf : Common → Found
 foundOf (Suite number) = foundSuite number
 foundOf Nothing = notFound
 
--- The whole answer's enum.
+-- The whole answer, in document 01's values.
 abbrev pub answerOf : Choice → Answer
 answerOf TooLong = refused
 answerOf (Chosen verifier prover) = chosen (foundOf verifier) (foundOf prover)

@@ -1,23 +1,23 @@
 // The choice of attestation suites, made once when a connection opens.
 ghost use mathlib.Core.Path.{_≡_};
-ghost use Rattle.suites.specs.Choice.{firstFound, choice};
+ghost use Rattle.suites.specs.Choice.{anyTooLong, firstFound, choice};
 ghost use Rattle.suites.specs.Numbers.{foundOf, answerOf};
 
-// The most entries that a list may have.
-pub const MAX_ENTRIES: usize = 16;
+const MAX_ENTRIES: usize = 16;
 
-// What two lists have in common.
+// The first suite that two lists have in common, if any.
 pub enum Common {
     Suite(u32),
     Nothing,
 }
 
+// Both suites, or refusal 6: a list has more than 16 entries.
 pub enum Choice {
     Chosen { verifier: Common, prover: Common },
     TooLong,
 }
 
-// Chooses the suite that our verifier and the peer's prover run, and the one that the peer's
+// Chooses the suite that our verifier and the peer's prover run, and the suite that the peer's
 // verifier and our prover run. In each pair the verifier's order decides.
 pub fn choose(
     our_verifiers: &[u32],
@@ -27,17 +27,28 @@ pub fn choose(
 ) -> Choice
     ensures { λ r. ⌜ answerOf r ≡ choice (now («our_verifiers» .entry)) (now («peer_provers» .entry)) (now («peer_verifiers» .entry)) (now («our_provers» .entry)) ⌝ }
 {
-    let too_long = (our_verifiers.len() > MAX_ENTRIES)
-        | (peer_provers.len() > MAX_ENTRIES)
-        | (peer_verifiers.len() > MAX_ENTRIES)
-        | (our_provers.len() > MAX_ENTRIES);
-    if too_long {
+    if any_too_long(our_verifiers, peer_provers, peer_verifiers, our_provers) {
         return Choice::TooLong;
     }
     Choice::Chosen {
         verifier: first_common(our_verifiers, peer_provers),
         prover: first_common(peer_verifiers, our_provers),
     }
+}
+
+// The fault of refusal 6.
+pub fn any_too_long(
+    our_verifiers: &[u32],
+    peer_provers: &[u32],
+    peer_verifiers: &[u32],
+    our_provers: &[u32],
+) -> bool
+    ensures { λ r. ⌜ r ≡ anyTooLong (now («our_verifiers» .entry)) (now («peer_provers» .entry)) (now («peer_verifiers» .entry)) (now («our_provers» .entry)) ⌝ }
+{
+    (our_verifiers.len() > MAX_ENTRIES)
+        | (peer_provers.len() > MAX_ENTRIES)
+        | (peer_verifiers.len() > MAX_ENTRIES)
+        | (our_provers.len() > MAX_ENTRIES)
 }
 
 // The first entry of `verifiers` found anywhere in `provers`.

@@ -42,7 +42,7 @@ test {x = pos n} {y = negsuc m} {a} {b} {c} {d} p q = sym (le-ltb (a + d) (c + b
 test {x = negsuc n} {y = pos m} {a} {b} {c} {d} p q = sym (lt-ltb (a + d) (c + b) (omega arith))
 test {x = negsuc n} {y = negsuc m} {a} {b} {c} {d} p q = same-test m n (a + d) (c + b) _ refl (omega arith)
 
--- What a test tells, and what tells a test's value.
+-- From a test to an order of naturals, and back.
 module _ {x y : ℤ} {a b c d : ℕ} (p : Diff x a b) (q : Diff y c d) where
   pub less : ltZ x y ≡ true → a + d < c + b
   less h = ltb-true (a + d) (c + b) (sym (test p q) ∙ h)

@@ -10,19 +10,19 @@ use lib.Signed.{ltZ, leZ, nonNeg}
 use Rattle.token.specs.SecondsLeft.{day, secondsLeft}
 use Rattle.token.specs.Good.{good, goodSeconds}
 
-abbrev Lasting : ℤ → Type 0
-Lasting left = leZ (pos 1) left ≡ true → T (nonNeg left) × (natAbs left ≤ 86400)
+abbrev AtMostDay : ℤ → Type 0
+AtMostDay left = leZ (pos 1) left ≡ true → T (nonNeg left) × (natAbs left ≤ 86400)
 
-clamped-lasting : (z : ℤ) (t u : Bool) → ltZ z (negℤ day) ≡ t → ltZ day z ≡ u → Lasting (cond t (negℤ day) (cond u day z))
-clamped-lasting z true u p q h = absurd (false≢true h)
-clamped-lasting z false true p q h = (tt, omega arith)
-clamped-lasting (pos n) false false p q h = (tt, omega (arith, ltb-false 86400 n q))
-clamped-lasting (negsuc n) false false p q h = absurd (false≢true h)
+clamped-at-most-day : (z : ℤ) (t u : Bool) → ltZ z (negℤ day) ≡ t → ltZ day z ≡ u → AtMostDay (cond t (negℤ day) (cond u day z))
+clamped-at-most-day z true u p q h = absurd (false≢true h)
+clamped-at-most-day z false true p q h = (tt, omega arith)
+clamped-at-most-day (pos n) false false p q h = (tt, omega (arith, ltb-false 86400 n q))
+clamped-at-most-day (negsuc n) false false p q h = absurd (false≢true h)
 
 -- Seconds left that are at least 1 are a natural number, at most a day.
-pub lasting : (expiry now : ℤ) → Lasting (secondsLeft expiry now)
+pub at-most-day : (expiry now : ℤ) → AtMostDay (secondsLeft expiry now)
 unfolding secondsLeft
-lasting expiry now = clamped-lasting (expiry -ℤ now) _ _ refl refl
+at-most-day expiry now = clamped-at-most-day (expiry -ℤ now) _ _ refl refl
 
 -- A token is good exactly if its seconds are not 0.
 pub good-is-positive : (verdict : Bool) (left : ℤ) → ltb 0 (goodSeconds verdict left) ≡ good verdict left

@@ -1,4 +1,4 @@
--- Document 01, "Tokens and suites": which token is good, and the length of the DAT timer that it starts.
+-- Document 01, "Tokens and suites": which token is good, and the DAT timer's length.
 use Prim.Native.Nat.{ℕ}
 use mathlib.Core.Bool.{Bool, cond, _&&_}
 use lib.IntN.{ℤ, pos, natAbs}
@@ -8,6 +8,6 @@ use lib.Signed.{leZ}
 abbrev pub good : Bool → ℤ → Bool
 good verdict left = verdict && leZ (pos 1) left
 
--- That number is the DAT timer's length; a bad token has 0.
+-- The DAT timer's length: the seconds left of a good token, 0 for a bad one.
 abbrev pub goodSeconds : Bool → ℤ → ℕ
 goodSeconds verdict left = cond (good verdict left) (natAbs left) 0

@@ -3,11 +3,11 @@ use mathlib.Core.Bool.{cond}
 use lib.IntN.{ℤ, pos, negℤ, _-ℤ_}
 use lib.Signed.{ltZ}
 
--- The furthest that a remaining time is told, either way: one day.
+-- The bound of seconds left in either direction: one day.
 abbrev pub day : ℤ
 day = pos 86400
 
--- z kept within -86,400 to 86,400.
+-- z clamped to -86,400 to 86,400.
 abbrev pub clamped : ℤ → ℤ
 clamped z = cond (ltZ z (negℤ day)) (negℤ day) (cond (ltZ day z) day z)
 

@@ -1,6 +1,6 @@
 // The remaining time of a dynamic attribute token (DAT).
 //
-// Whether the token's signature holds is the host's verdict; here only its expiry counts.
+// Checking the token's signature is the host's work; its verdict is an argument here.
 ghost use mathlib.Core.Path.{_≡_};
 ghost use Rattle.token.specs.SecondsLeft.{secondsLeft};
 ghost use Rattle.token.specs.Good.{goodSeconds};
@@ -10,7 +10,7 @@ const DAY: i64 = 86_400;
 const MINUS_DAY: i64 = -86_400;
 
 // Expiry minus now, worked out exactly, then clamped to a day either way.
-// Times further apart than 64 bits can tell are found by comparing before subtracting.
+// Comparing with a day first keeps the subtraction within 64 bits.
 pub fn seconds_left(expiry: i64, now: i64) -> i64
     ensures { λ r. ⌜ r ≡ secondsLeft expiry now ⌝ }
 {

@@ -1,5 +1,5 @@
 -- `suites::choose` meets its contract.
-use mathlib.Core.Path.{_≡_}
+use mathlib.Core.Path.{_≡_, sym, _∙_}
 use borrow.Author.Needs.{needs}
 use Rattle.suites.specs.Choice.{choice}
 use Rattle.suites.proofs.choose.Statement.{statement}
@@ -7,11 +7,14 @@ use Rattle.suites.proofs.choose.Tie as tie
 
 returns : tie.Need-returns
 unfolding choice
-returns c = rw (c .if1 .taken)
+returns c = rw (sym (c .before .any-too-long .ensures) ∙ c .if1 .taken)
 
 returns-2 : tie.Need-returns-2
 unfolding choice
-returns-2 c = rw (c .before .before .if1 .left, c .before .first-common .ensures, c .first-common2 .ensures)
+returns-2 c =
+    let short = sym (c .before .before .before .any-too-long .ensures) ∙ c .before .before .if1 .left in
+    rw (short, c .before .first-common .ensures, c .first-common2 .ensures)
 
 pub choose-spec : {M : Type 1} → statement M
-choose-spec = tie.close (tie.spec returns (λ c κs. search needs) (λ c κs. search needs) returns-2)
+choose-spec =
+    tie.close (tie.spec (λ c κs. search needs) returns (λ c κs. search needs) (λ c κs. search needs) returns-2)

@@ -7,7 +7,7 @@ use borrow.Author.Tests.{eq-eqb, ne-eqb}
 use lib.Dec.{eqb}
 use lib.ListN.{drop}
 use Rattle.suites.specs.Answer.{Found}
-use Rattle.suites.specs.Choice.{firstThat, foundIn, firstFound}
+use Rattle.suites.specs.Choice.{find, foundIn, firstFound}
 use Rattle.suites.specs.declared.Common.the-variants.{Nothing}
 use Rattle.suites.specs.Numbers.{foundOf}
 use Rattle.suites.proofs.Search.{here, later, over}
@@ -16,7 +16,7 @@ use Rattle.suites.proofs.first_common.Tie as tie
 
 abbrev Inv-loop : tie.InvT-loop
 Inv-loop verifiers provers common₀ i suite j₀ i-end j-end common j =
-    (firstThat (eqb suite) provers ≡ firstThat (eqb suite) (drop j provers)) × (common ≡ Nothing)
+    (find (eqb suite) provers ≡ find (eqb suite) (drop j provers)) × (common ≡ Nothing)
 
 abbrev μ-loop : tie.MeasureT-loop
 μ-loop verifiers provers common₀ i suite j₀ i-end j-end common j = j-end - j

@@ -68,6 +68,12 @@ returns-2 c =
 exact : (c : tie.Joined1) → let a = c .before .args in toZ w64 (ofZ w64 (toZ w64 (ofZ w64 (a .expiry)) -ℤ toZ w64 (ofZ w64 (a .now)))) ≡ a .expiry -ℤ a .now
 exact c = toZ-ofZ (sub-left c) ∙ (λ i. toZ-ofZ (c .before .fits .expiry) i -ℤ toZ-ofZ (c .before .fits .now) i)
 
+returns-5 : tie.Need-returns-5
+unfolding secondsLeft
+returns-5 c =
+    let same = exact (c .before .before) in
+    same ∙ subst (λ (z : ℤ). z ≡ clamped z) same (rw (c .before .if4 .left, c .if5 .left))
+
 returns-3 : tie.Need-returns-3
 unfolding secondsLeft
 returns-3 c = subst (λ (z : ℤ). negℤ day ≡ clamped z) (exact (c .before)) (rw (c .if4 .taken))
@@ -75,12 +81,6 @@ returns-3 c = subst (λ (z : ℤ). negℤ day ≡ clamped z) (exact (c .before))
 returns-4 : tie.Need-returns-4
 unfolding secondsLeft
 returns-4 c = subst (λ (z : ℤ). day ≡ clamped z) (exact (c .before .before)) (rw (c .before .if4 .left, c .if5 .taken))
-
-returns-5 : tie.Need-returns-5
-unfolding secondsLeft
-returns-5 c =
-    let same = exact (c .before .before) in
-    same ∙ subst (λ (z : ℤ). z ≡ clamped z) same (rw (c .before .if4 .left, c .if5 .left))
 
 pub seconds-left-spec : {M : Type 1} → statement M
 seconds-left-spec =
