@@ -19,6 +19,7 @@ pub fn number(n: u64) {
     io::print_decimal(STDOUT_FILENO, n);
 }
 
+// The smallest number has no opposite in 64 bits, so -1 minus `z` is formed first.
 pub fn signed(z: i64) {
     if z < 0 {
         text(b" -");

@@ -8,9 +8,10 @@ const SMALLEST: i64 = -9_223_372_036_854_775_808;
 pub fn run() {
     print::heading(b"seconds left");
     within_a_day();
-    clamped();
+    around_a_day();
     at_the_ends();
-    print::heading(b"seconds of a good token, 0 if bad");
+    outside_64_bits();
+    print::heading(b"seconds of a good token, 0 for a bad one");
     good_tokens();
 }
 
@@ -21,11 +22,13 @@ fn within_a_day() {
     left(b"across zero", 30, -30);
 }
 
-fn clamped() {
+fn around_a_day() {
+    left(b"a day less a second", 87_399, 1_000);
     left(b"a day", 87_400, 1_000);
     left(b"a day and a second", 87_401, 1_000);
-    left(b"a day late", 1_000, 87_400);
-    left(b"a day and a second late", 1_000, 87_401);
+    left(b"late by a day less a second", 1_000, 87_399);
+    left(b"late by a day", 1_000, 87_400);
+    left(b"late by a day and a second", 1_000, 87_401);
 }
 
 fn at_the_ends() {
@@ -37,8 +40,15 @@ fn at_the_ends() {
     left(b"case 12, swapped", SMALLEST, LARGEST);
     left(b"both largest", LARGEST, LARGEST);
     left(b"both smallest", SMALLEST, SMALLEST);
-    left(b"the largest difference of 64 bits", LARGEST, 0);
-    left(b"the smallest difference of 64 bits", SMALLEST, 0);
+}
+
+// The first and the last difference of 64 bits, and the ones beside them.
+fn outside_64_bits() {
+    left(b"2^63 - 1", -1, SMALLEST);
+    left(b"2^63", LARGEST, -1);
+    left(b"-2^63", SMALLEST, 0);
+    left(b"-2^63 - 1", SMALLEST, 1);
+    left(b"-2^63 + 1", 0, LARGEST);
 }
 
 fn good_tokens() {
@@ -47,8 +57,8 @@ fn good_tokens() {
     good(b"a second left", true, 1_001, 1_000);
     good(b"case 11, none left", true, 1_000, 1_000);
     good(b"a second late", true, 1_000, 1_001);
-    good(b"far ahead", true, LARGEST, SMALLEST);
-    good(b"far behind", true, SMALLEST, LARGEST);
+    good(b"case 12", true, LARGEST, SMALLEST);
+    good(b"case 12, swapped", true, SMALLEST, LARGEST);
 }
 
 fn left(label: &[u8], expiry: i64, now: i64) {
