@@ -3,24 +3,24 @@ use libc::STDOUT_FILENO;
 
 const MINUS_ONE: i64 = -1;
 
-pub fn heading(s: &[u8]) {
+pub(crate) fn heading(s: &[u8]) {
     text(s);
     text(b"\n");
 }
 
-pub fn label(s: &[u8]) {
+pub(crate) fn label(s: &[u8]) {
     text(b"  ");
     text(s);
     text(b":");
 }
 
-pub fn number(n: u64) {
+pub(crate) fn number(n: u64) {
     text(b" ");
     io::print_decimal(STDOUT_FILENO, n);
 }
 
 // The smallest number has no opposite in 64 bits, so -1 minus `z` is formed first.
-pub fn signed(z: i64) {
+pub(crate) fn signed(z: i64) {
     if z < 0 {
         text(b" -");
         io::print_decimal(STDOUT_FILENO, (MINUS_ONE - z) as u64 + 1);
@@ -29,7 +29,7 @@ pub fn signed(z: i64) {
     }
 }
 
-pub fn end_line() {
+pub(crate) fn end_line() {
     text(b"\n");
 }
 

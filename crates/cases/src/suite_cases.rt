@@ -3,7 +3,7 @@ use crate::print;
 use suites::Choice;
 use suites::Common;
 
-pub fn run() {
+pub(crate) fn run() {
     print::heading(b"suites: refusal, verifier found and suite, prover found and suite");
     four_lists();
     first_common();

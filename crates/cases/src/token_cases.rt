@@ -5,7 +5,7 @@ const LARGEST: i64 = 9_223_372_036_854_775_807;
 
 const SMALLEST: i64 = -9_223_372_036_854_775_808;
 
-pub fn run() {
+pub(crate) fn run() {
     print::heading(b"seconds left");
     within_a_day();
     around_a_day();

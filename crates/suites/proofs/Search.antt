@@ -1,5 +1,5 @@
--- How the first entry that passes a test is searched for, from one entry to the next.
-use mathlib.Core.Path.{_≡_, refl}
+-- What is left of a list finds, from one entry to the next.
+use mathlib.Core.Path.{_≡_}
 use mathlib.Core.Bool.{Bool, true, false}
 use mathlib.Core.List.{List}
 use Prim.Native.Nat.{ℕ, _+_, _<_, _≤_}
@@ -18,6 +18,6 @@ module _ (passes : ℕ → Bool) (list : List ℕ) (i : ℕ) where
   unfolding find
   later h t = rw (add-one, drop-cons list i 0 h, t)
 
-  pub over : length list ≤ i → find passes (drop i list) ≡ notFound
+  pub at-end : length list ≤ i → find passes (drop i list) ≡ notFound
   unfolding find
-  over h = rw (drop-of-length-le list {i = i} h)
+  at-end h = rw (drop-of-length-le list {i = i} h)

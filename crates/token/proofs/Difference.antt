@@ -56,17 +56,18 @@ module _ {x y : ℤ} {a b c d : ℕ} (p : Diff x a b) (q : Diff y c d) where
   pub is-not-less : c + b ≤ a + d → ltZ x y ≡ false
   is-not-less h = test p q ∙ le-ltb (a + d) (c + b) h
 
-gap : (t : Bool) (n m a b : ℕ) → ltb n m ≡ t → n + b ≡ a + m → Diff (cond t (negsuc (m - suc n)) (pos (n - m))) a b
-gap true n m a b h e = omega (arith, ltb-true)
-gap false n m a b h e = omega (arith, ltb-false)
+-- The difference that the integers' sum forms of two signs.
+apart : (t : Bool) (n m a b : ℕ) → ltb n m ≡ t → n + b ≡ a + m → Diff (cond t (negsuc (m - suc n)) (pos (n - m))) a b
+apart true n m a b h e = omega (arith, ltb-true)
+apart false n m a b h e = omega (arith, ltb-false)
 
 pub minus : {x y : ℤ} {a b c d : ℕ} → Diff x a b → Diff y c d → Diff (x -ℤ y) (a + d) (b + c)
 minus {x = pos n} {y = pos zero} p q = omega arith
-minus {x = pos n} {y = pos (suc m)} p q = gap _ n (suc m) _ _ refl (omega arith)
+minus {x = pos n} {y = pos (suc m)} p q = apart _ n (suc m) _ _ refl (omega arith)
 minus {x = pos n} {y = negsuc m} p q = omega arith
-minus {x = negsuc n} {y = pos zero} p q = gap _ 0 (suc n) _ _ refl (omega arith)
+minus {x = negsuc n} {y = pos zero} p q = apart _ 0 (suc n) _ _ refl (omega arith)
 minus {x = negsuc n} {y = pos (suc m)} p q = omega arith
-minus {x = negsuc n} {y = negsuc m} p q = gap _ (suc m) (suc n) _ _ refl (omega arith)
+minus {x = negsuc n} {y = negsuc m} p q = apart _ (suc m) (suc n) _ _ refl (omega arith)
 
 pub fits : {z : ℤ} {a b : ℕ} → Diff z a b → a < b + 2 ^ 63 → b ≤ a + 2 ^ 63 → SFits w64 z
 fits {z = pos n} p h l = omega arith

@@ -1,5 +1,5 @@
 -- `suites::choose` meets its contract.
-use mathlib.Core.Path.{_≡_, sym, _∙_}
+use mathlib.Core.Path.{sym, _∙_}
 use borrow.Author.Needs.{needs}
 use Rattle.suites.specs.Choice.{choice}
 use Rattle.suites.proofs.choose.Statement.{statement}

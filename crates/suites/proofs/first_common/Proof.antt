@@ -1,16 +1,15 @@
 -- `suites::first_common` meets its contract. What is left of each list finds what the whole list finds.
 use mathlib.Core.Path.{_≡_, ap, sym, _∙_}
-use mathlib.Core.List.{List}
-use Prim.Native.Nat.{ℕ, _-_}
+use Prim.Native.Nat.{_-_}
 use borrow.Author.Needs.{needs}
 use borrow.Author.Tests.{eq-eqb, ne-eqb}
 use lib.Dec.{eqb}
 use lib.ListN.{drop}
 use Rattle.suites.specs.Answer.{Found}
-use Rattle.suites.specs.Choice.{find, foundIn, firstFound}
+use Rattle.suites.specs.Choice.{find, firstFound}
 use Rattle.suites.specs.declared.Common.the-variants.{Nothing}
 use Rattle.suites.specs.Numbers.{foundOf}
-use Rattle.suites.proofs.Search.{here, later, over}
+use Rattle.suites.proofs.Search.{here, later, at-end}
 use Rattle.suites.proofs.first_common.Statement.{statement}
 use Rattle.suites.proofs.first_common.Tie as tie
 
@@ -37,12 +36,12 @@ search-again : tie.Need-search-again Inv-loop μ-loop Inv-search μ-search
 search-again c =
     let l = c .before .loop in
     let o = c .before .before .before .before .search in
-    (o .inv .0 ∙ later _ _ (o .i) (search needs) (ap (λ (f : Found). f .found) (l .inv .0 ∙ over _ _ (l .j) (c .loop-test .left))), l .inv .1)
+    (o .inv .0 ∙ later _ _ (o .i) (search needs) (ap (λ (f : Found). f .found) (l .inv .0 ∙ at-end _ _ (l .j) (c .loop-test .left))), l .inv .1)
 
 returns : tie.Need-returns Inv-loop μ-loop Inv-search μ-search
 returns c =
     let o = c .before .search in
-    ap foundOf (o .inv .1) ∙ sym (o .inv .0 ∙ over _ _ (o .i) (c .search-test .left))
+    ap foundOf (o .inv .1) ∙ sym (o .inv .0 ∙ at-end _ _ (o .i) (c .search-test .left))
 
 returns-2 : tie.Need-returns-2 Inv-loop μ-loop Inv-search μ-search
 returns-2 c =
