@@ -73,10 +73,16 @@ pub fits : {z : ℤ} {a b : ℕ} → Diff z a b → a < b + 2 ^ 63 → b ≤ a +
 fits {z = pos n} p h l = omega arith
 fits {z = negsuc n} p h l = omega arith
 
-pub fitted : {z : ℤ} → SFits w64 z → (above z < 2 ^ 63) × (below z ≤ 2 ^ 63)
-fitted {z = pos n} h = omega arith
-fitted {z = negsuc n} h = omega arith
-
 -- What the machine reads back from the bits of a number that fits.
 pub held : {z : ℤ} {a b : ℕ} → Diff z a b → SFits w64 z → Diff (toZ w64 (ofZ w64 z)) a b
 held p h = rw (toZ-ofZ h) p
+
+-- An argument as the machine reads it, with its bounds, which omega finds.
+pub record Word (z : ℤ) : Type 0 where
+  pub diff : Diff (toZ w64 (ofZ w64 z)) (above z) (below z)
+  pub high : above z < 2 ^ 63
+  pub low : below z ≤ 2 ^ 63
+
+pub word : {z : ℤ} → SFits w64 z → Word z
+word {z = pos n} h = record { diff = held (parts (pos n)) h; high = omega arith; low = omega arith }
+word {z = negsuc n} h = record { diff = held (parts (negsuc n)) h; high = omega arith; low = omega arith }

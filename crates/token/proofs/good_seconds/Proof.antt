@@ -1,4 +1,4 @@
--- `token::good_seconds` meets its contract.
+-- `token::good_seconds` meets its contract: what it tests and casts is the definition's number.
 use mathlib.Core.Path.{_≡_, sym, ap, subst, _∙_}
 use mathlib.Core.Logic.{⊎-elim}
 use Prim.Native.Nat.{ℕ}
@@ -16,7 +16,6 @@ use Rattle.token.proofs.good_seconds.Statement.{statement}
 use Rattle.token.proofs.good_seconds.Tie as tie
 
 module _ (c : tie.After-seconds-left) where
-  -- What the code tests and casts is the definition's number.
   left-is : toZ w64 (ofZ w64 (c .seconds-left .result)) ≡ secondsLeft (c .before .args .expiry) (c .before .args .now)
   left-is =
       toZ-ofZ (record { sfits = c .seconds-left .ok }) ∙ c .seconds-left .ensures ∙ (λ i. secondsLeft (toZ-ofZ (c .before .fits .expiry) i) (toZ-ofZ (c .before .fits .now) i))

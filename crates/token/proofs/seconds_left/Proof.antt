@@ -1,4 +1,4 @@
--- `token::seconds_left` meets its contract.
+-- `token::seconds_left` meets its contract: the first tests keep every subtraction within 64 bits, so what is clamped is the exact difference.
 use mathlib.Core.Path.{_≡_, subst, _∙_}
 use mathlib.Core.Logic.{⊎-elim}
 use Prim.Native.Nat.{_+_}
@@ -8,61 +8,52 @@ use mir.Syntax.{w64}
 use mir.Val.{toZ, ofZ}
 use mir.Facts.{toZ-ofZ}
 use Rattle.token.specs.SecondsLeft.{day, clamped, secondsLeft}
-use Rattle.token.proofs.Difference.{Diff, above, below, parts, less, not-less, is-less, is-not-less, minus, fits, fitted, held}
+use Rattle.token.proofs.Difference.{Diff, above, below, parts, less, not-less, is-less, is-not-less, minus, fits, held, word}
 use Rattle.token.proofs.seconds_left.Statement.{statement}
 use Rattle.token.proofs.seconds_left.Tie as tie
 
--- The arguments as the code reads them, and what is to be clamped.
-module _ (s : tie.Start) where
-  expiry : Diff (toZ w64 (ofZ w64 (s .args .expiry))) (above (s .args .expiry)) (below (s .args .expiry))
-  expiry = held (parts (s .args .expiry)) (s .fits .expiry)
-
-  now : Diff (toZ w64 (ofZ w64 (s .args .now))) (above (s .args .now)) (below (s .args .now))
-  now = held (parts (s .args .now)) (s .fits .now)
-
-  left : Diff (s .args .expiry -ℤ s .args .now) (above (s .args .expiry) + below (s .args .now)) (below (s .args .expiry) + above (s .args .now))
-  left = minus (parts (s .args .expiry)) (parts (s .args .now))
-
 sub-if2 : tie.Need-sub-if2
 sub-if2 c =
-    let s = c .before in
-    let negative = less (expiry s) (parts (pos 0)) (c .if1 .taken) in
-    fits (minus (expiry s) (parts (negℤ day))) (omega arith) (omega (arith, fitted (s .fits .expiry)))
+    let e = word (c .before .fits .expiry) in
+    let negative = less (e .diff) (parts (pos 0)) (c .if1 .taken) in
+    fits (minus (e .diff) (parts (negℤ day))) (omega arith) (omega arith)
 
 sub-if3 : tie.Need-sub-if3
 sub-if3 c =
-    let s = c .before in
-    let natural = not-less (expiry s) (parts (pos 0)) (c .if1 .left) in
-    fits (minus (expiry s) (parts day)) (omega (arith, fitted (s .fits .expiry))) (omega arith)
+    let e = word (c .before .fits .expiry) in
+    let natural = not-less (e .diff) (parts (pos 0)) (c .if1 .left) in
+    fits (minus (e .diff) (parts day)) (omega arith) (omega arith)
 
 sub-left : tie.Need-sub-left
 sub-left c =
-    let s = c .before in
-    let bounds = fitted (s .fits .now) in
-    let difference = minus (expiry s) (now s) in
+    let e = word (c .before .fits .expiry) in
+    let n = word (c .before .fits .now) in
     ⊎-elim
     (λ w.
-    let negative = less (expiry s) (parts (pos 0)) (w .0 .taken) in
-    let near = not-less (held (minus (expiry s) (parts (negℤ day))) (sub-if2 record { before = s; if1 = w .0 })) (now s) (w .1 .left) in
-    fits difference (omega arith) (omega arith))
+    let negative = less (e .diff) (parts (pos 0)) (w .0 .taken) in
+    let near = not-less (held (minus (e .diff) (parts (negℤ day))) (sub-if2 record { before = c .before; if1 = w .0 })) (n .diff) (w .1 .left) in
+    fits (minus (e .diff) (n .diff)) (omega arith) (omega arith))
     (λ w.
-    let natural = not-less (expiry s) (parts (pos 0)) (w .0 .left) in
-    let near = not-less (now s) (held (minus (expiry s) (parts day)) (sub-if3 record { before = s; if1 = w .0 })) (w .1 .left) in
-    fits difference (omega arith) (omega arith))
+    let natural = not-less (e .diff) (parts (pos 0)) (w .0 .left) in
+    let near = not-less (n .diff) (held (minus (e .diff) (parts day)) (sub-if3 record { before = c .before; if1 = w .0 })) (w .1 .left) in
+    fits (minus (e .diff) (n .diff)) (omega arith) (omega arith))
     (c .if1 .came)
+
+left : (s : tie.Start) → let a = s .args in Diff (a .expiry -ℤ a .now) (above (a .expiry) + below (a .now)) (below (a .expiry) + above (a .now))
+left s = minus (parts (s .args .expiry)) (parts (s .args .now))
 
 returns : tie.Need-returns
 unfolding secondsLeft
 returns c =
     let s = c .before .before in
-    let far = less (held (minus (expiry s) (parts (negℤ day))) (sub-if2 (c .before))) (now s) (c .if2 .taken) in
+    let far = less (held (minus (word (s .fits .expiry) .diff) (parts (negℤ day))) (sub-if2 (c .before))) (word (s .fits .now) .diff) (c .if2 .taken) in
     rw (is-less (left s) (parts (negℤ day)) (omega arith))
 
 returns-2 : tie.Need-returns-2
 unfolding secondsLeft
 returns-2 c =
     let s = c .before .before in
-    let far = less (now s) (held (minus (expiry s) (parts day)) (sub-if3 (c .before))) (c .if3 .taken) in
+    let far = less (word (s .fits .now) .diff) (held (minus (word (s .fits .expiry) .diff) (parts day)) (sub-if3 (c .before))) (c .if3 .taken) in
     rw (is-not-less (left s) (parts (negℤ day)) (omega arith), is-less (parts day) (left s) (omega arith))
 
 exact : (c : tie.Joined1) → let a = c .before .args in toZ w64 (ofZ w64 (toZ w64 (ofZ w64 (a .expiry)) -ℤ toZ w64 (ofZ w64 (a .now)))) ≡ a .expiry -ℤ a .now
