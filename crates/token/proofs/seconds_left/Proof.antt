@@ -1,14 +1,13 @@
 -- `token::seconds_left` meets its contract: the first tests keep every subtraction within 64 bits, so what is clamped is the exact difference.
 use mathlib.Core.Path.{_≡_, subst, _∙_}
 use mathlib.Core.Logic.{⊎-elim}
-use Prim.Native.Nat.{_+_}
 use native.Mathlib.Omega.{arith}
 use lib.IntN.{ℤ, pos, negℤ, _-ℤ_}
 use mir.Syntax.{w64}
 use mir.Val.{toZ, ofZ}
 use mir.Facts.{toZ-ofZ}
 use Rattle.token.specs.SecondsLeft.{day, clamped, secondsLeft}
-use Rattle.token.proofs.Difference.{Diff, above, below, parts, less, not-less, is-less, is-not-less, minus, fits, held, word}
+use Rattle.token.proofs.Difference.{parts, less, not-less, is-less, is-not-less, minus, fits, held, word}
 use Rattle.token.proofs.seconds_left.Statement.{statement}
 use Rattle.token.proofs.seconds_left.Tie as tie
 
@@ -39,39 +38,36 @@ sub-left c =
     fits (minus (e .diff) (n .diff)) (omega arith) (omega arith))
     (c .if1 .came)
 
-left : (s : tie.Start) → let a = s .args in Diff (a .expiry -ℤ a .now) (above (a .expiry) + below (a .now)) (below (a .expiry) + above (a .now))
-left s = minus (parts (s .args .expiry)) (parts (s .args .now))
-
 returns : tie.Need-returns
 unfolding secondsLeft
 returns c =
     let s = c .before .before in
+    let left = minus (parts (s .args .expiry)) (parts (s .args .now)) in
     let far = less (held (minus (word (s .fits .expiry) .diff) (parts (negℤ day))) (sub-if2 (c .before))) (word (s .fits .now) .diff) (c .if2 .taken) in
-    rw (is-less (left s) (parts (negℤ day)) (omega arith))
+    rw (is-less left (parts (negℤ day)) (omega arith))
 
 returns-2 : tie.Need-returns-2
 unfolding secondsLeft
 returns-2 c =
     let s = c .before .before in
+    let left = minus (parts (s .args .expiry)) (parts (s .args .now)) in
     let far = less (word (s .fits .now) .diff) (held (minus (word (s .fits .expiry) .diff) (parts day)) (sub-if3 (c .before))) (c .if3 .taken) in
-    rw (is-not-less (left s) (parts (negℤ day)) (omega arith), is-less (parts day) (left s) (omega arith))
+    rw (is-not-less left (parts (negℤ day)) (omega arith), is-less (parts day) left (omega arith))
 
-exact : (c : tie.Joined1) → let a = c .before .args in toZ w64 (ofZ w64 (toZ w64 (ofZ w64 (a .expiry)) -ℤ toZ w64 (ofZ w64 (a .now)))) ≡ a .expiry -ℤ a .now
-exact c = toZ-ofZ (sub-left c) ∙ (λ i. toZ-ofZ (c .before .fits .expiry) i -ℤ toZ-ofZ (c .before .fits .now) i)
+answer : (c : tie.Joined1) (r : ℤ) → let a = c .before .args in r ≡ clamped (toZ w64 (ofZ w64 (toZ w64 (ofZ w64 (a .expiry)) -ℤ toZ w64 (ofZ w64 (a .now))))) → r ≡ secondsLeft (a .expiry) (a .now)
+unfolding secondsLeft
+answer c r =
+    let exact = toZ-ofZ (sub-left c) ∙ (λ i. toZ-ofZ (c .before .fits .expiry) i -ℤ toZ-ofZ (c .before .fits .now) i) in
+    subst (λ (z : ℤ). r ≡ clamped z) exact
 
 returns-5 : tie.Need-returns-5
-unfolding secondsLeft
-returns-5 c =
-    let same = exact (c .before .before) in
-    same ∙ subst (λ (z : ℤ). z ≡ clamped z) same (rw (c .before .if4 .left, c .if5 .left))
+returns-5 c = answer (c .before .before) _ (rw (c .before .if4 .left, c .if5 .left))
 
 returns-3 : tie.Need-returns-3
-unfolding secondsLeft
-returns-3 c = subst (λ (z : ℤ). negℤ day ≡ clamped z) (exact (c .before)) (rw (c .if4 .taken))
+returns-3 c = answer (c .before) _ (rw (c .if4 .taken))
 
 returns-4 : tie.Need-returns-4
-unfolding secondsLeft
-returns-4 c = subst (λ (z : ℤ). day ≡ clamped z) (exact (c .before .before)) (rw (c .before .if4 .left, c .if5 .taken))
+returns-4 c = answer (c .before .before) _ (rw (c .before .if4 .left, c .if5 .taken))
 
 pub seconds-left-spec : {M : Type 1} → statement M
 seconds-left-spec =
