@@ -10,7 +10,7 @@ pub(crate) fn run() {
     within_a_day();
     around_a_day();
     at_the_ends();
-    outside_64_bits();
+    around_64_bits();
     print::heading(b"seconds of a good token, 0 for a bad one");
     good_tokens();
 }
@@ -42,8 +42,8 @@ fn at_the_ends() {
     left(b"both smallest", SMALLEST, SMALLEST);
 }
 
-// The first and the last difference of 64 bits, and the ones beside them.
-fn outside_64_bits() {
+// The smallest and the largest difference that 64 bits hold, and those beside them.
+fn around_64_bits() {
     left(b"2^63 - 1", -1, SMALLEST);
     left(b"2^63", LARGEST, -1);
     left(b"-2^63", SMALLEST, 0);

@@ -36,7 +36,7 @@ pub fn choose(
     }
 }
 
-// The fault of refusal 6.
+// Whether a list has more than 16 entries, which is the fault of refusal 6.
 pub fn any_too_long(
     our_verifiers: &[u32],
     peer_provers: &[u32],

@@ -3,12 +3,13 @@ use mathlib.Core.Path.{_≡_, refl}
 use mathlib.Core.Bool.{Bool, true, false, cond, false≢true}
 use Prim.Native.Nat.{zero, suc, _≤_}
 use native.Mathlib.Omega.{arith}
-use borrow.Author.Tests.{ltb-false, le-leb}
+use borrow.Author.Tests.{le-leb}
 use lib.Dec.{T, ltb}
 use lib.IntN.{ℤ, pos, negsuc, negℤ, natAbs, _-ℤ_}
 use lib.Signed.{ltZ, leZ, nonNeg}
 use Rattle.token.specs.SecondsLeft.{day, secondsLeft}
 use Rattle.token.specs.Good.{good, goodSeconds}
+use Rattle.token.proofs.Difference.{parts, not-less}
 
 abbrev AtMostDay : ℤ → Type 0
 AtMostDay left = leZ (pos 1) left ≡ true → T (nonNeg left) × (natAbs left ≤ 86400)
@@ -16,7 +17,7 @@ AtMostDay left = leZ (pos 1) left ≡ true → T (nonNeg left) × (natAbs left �
 clamped-at-most-day : (z : ℤ) (t u : Bool) → ltZ z (negℤ day) ≡ t → ltZ day z ≡ u → AtMostDay (cond t (negℤ day) (cond u day z))
 clamped-at-most-day z true u p q h = absurd (false≢true h)
 clamped-at-most-day z false true p q h = (tt, omega arith)
-clamped-at-most-day (pos n) false false p q h = (tt, omega (arith, ltb-false 86400 n q))
+clamped-at-most-day (pos n) false false p q h = (tt, omega (arith, not-less (parts day) (parts (pos n)) q))
 clamped-at-most-day (negsuc n) false false p q h = absurd (false≢true h)
 
 -- Seconds left that are at least 1 are a natural number, at most a day.
