@@ -6,7 +6,7 @@ use suites::Common;
 pub(crate) fn run() {
     print::heading(b"suites: refusal, verifier found and suite, prover found and suite");
     four_lists();
-    first_common();
+    common_entries();
     suite_zero();
     list_lengths();
 }
@@ -14,12 +14,12 @@ pub(crate) fn run() {
 fn four_lists() {
     show(b"boot run", suites::choose(&[7, 3], &[3, 7], &[3], &[3, 7]));
     show(
-        b"all different",
+        b"four different lists",
         suites::choose(&[1, 2], &[2, 9], &[3, 4], &[4, 9]),
     );
 }
 
-fn first_common() {
+fn common_entries() {
     same_both_ways(b"nothing in common", &[1, 2], &[3, 4]);
     same_both_ways(b"the verifier's order", &[2, 1], &[1, 2]);
     same_both_ways(b"the last of each", &[1, 2, 9], &[3, 9]);
@@ -34,11 +34,11 @@ fn suite_zero() {
 }
 
 fn list_lengths() {
-    print::heading(b"no entries in one list");
+    print::heading(b"suites, no entries in one list");
     in_each_place(&[]);
-    print::heading(b"16 entries in one list, of which the last is common");
+    print::heading(b"suites, 16 entries in one list, of which the last is common");
     in_each_place(&[2, 3, 4, 5, 6, 7, 8, 9, 10, 11, 12, 13, 14, 15, 16, 1]);
-    print::heading(b"17 entries in one list");
+    print::heading(b"suites, 17 entries in one list");
     in_each_place(&[1; 17]);
 }
 

@@ -9,6 +9,7 @@ pub(crate) fn run() {
     print::heading(b"seconds left");
     within_a_day();
     around_a_day();
+    around_a_day_before_zero();
     at_the_ends();
     around_64_bits();
     print::heading(b"seconds of a good token, 0 for a bad one");
@@ -31,6 +32,12 @@ fn around_a_day() {
     left(b"late by a day and a second", 1_000, 87_401);
 }
 
+fn around_a_day_before_zero() {
+    left(b"a day less a second, expiry -1", -1, -86_400);
+    left(b"a day, expiry -1", -1, -86_401);
+    left(b"a day and a second, expiry -1", -1, -86_402);
+}
+
 fn at_the_ends() {
     left(
         b"case 12, expiry largest and now smallest",
@@ -44,6 +51,7 @@ fn at_the_ends() {
 
 // The smallest and the largest difference that 64 bits hold, and those beside them.
 fn around_64_bits() {
+    left(b"2^63 - 2", -2, SMALLEST);
     left(b"2^63 - 1", -1, SMALLEST);
     left(b"2^63", LARGEST, -1);
     left(b"-2^63", SMALLEST, 0);

@@ -23,5 +23,5 @@ choice-back : (c : Choice) → choiceFrom (answerOf c) ≡ c
 choice-back TooLong = refl
 choice-back (Chosen v p) = λ i. Chosen (common-back v i) (common-back p i)
 
-pub fixed : (a b : Choice) → answerOf a ≡ answerOf b → a ≡ b
-fixed a b same = sym (choice-back a) ∙ ap choiceFrom same ∙ choice-back b
+pub same-numbers : (a b : Choice) → answerOf a ≡ answerOf b → a ≡ b
+same-numbers a b same = sym (choice-back a) ∙ ap choiceFrom same ∙ choice-back b

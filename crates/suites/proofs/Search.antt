@@ -1,4 +1,4 @@
--- What is left of a list finds, from one entry to the next.
+-- The search in what is left of a list, from one entry to the next.
 use mathlib.Core.Path.{_≡_}
 use mathlib.Core.Bool.{Bool, true, false}
 use mathlib.Core.List.{List}

@@ -1,4 +1,4 @@
--- Document 01, "Tokens and suites": the choice of suites, over four lists of 32-bit numbers.
+-- Document 01, "Tokens and suites" and "Refusal numbers", row 6: the choice of suites, over four lists of 32-bit numbers.
 use Prim.Native.Nat.{ℕ}
 use mathlib.Core.Bool.{Bool, cond, _||_}
 use mathlib.Core.List.{List, [], _∷_}

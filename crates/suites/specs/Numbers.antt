@@ -1,4 +1,4 @@
--- Document 01's numbers and values for each case of the enums that the code answers with.
+-- Document 01, "The forms we expect": the paper's number and values for each case of the enums that the code answers with.
 use Rattle.suites.specs.Answer.{Found, foundSuite, notFound, Answer, refused, chosen}
 use Rattle.suites.specs.declared.Common.{Common}
 use Rattle.suites.specs.declared.Common.the-variants.{Suite, Nothing}

@@ -11,6 +11,7 @@ use Rattle.token.specs.SecondsLeft.{day, secondsLeft}
 use Rattle.token.specs.Good.{good, goodSeconds}
 use Rattle.token.proofs.Difference.{parts, not-less}
 
+-- In the paper's number and not in `day`, so that another `day` is refused.
 abbrev AtMostDay : ℤ → Type 0
 AtMostDay left = leZ (pos 1) left ≡ true → T (nonNeg left) × (natAbs left ≤ 86400)
 

@@ -10,7 +10,7 @@ const DAY: i64 = 86_400;
 const MINUS_DAY: i64 = -86_400;
 
 // Expiry minus now, worked out exactly, then clamped to a day either way.
-// Comparing with a day first keeps the subtraction within 64 bits.
+// Comparing `now` with a day before or after expiry keeps the subtraction within 64 bits.
 pub fn seconds_left(expiry: i64, now: i64) -> i64
     ensures { λ r. ⌜ r ≡ secondsLeft expiry now ⌝ }
 {
