@@ -1,0 +1,62 @@
+-- Document 01, "The record and its tags" and "The published table": the record after a handled event.
+use Prim.Native.Nat.{ℕ, _+_}
+use mathlib.Core.Bool.{Bool, cond}
+use lib.Dec.{eqb}
+use Rattle.connection.specs.Timers.{Timer, H, HP, HV, DAT, RA, ACK, tagOf, starts, ends, tagAfter}
+use Rattle.connection.specs.declared.Connection.{Connection}
+use Rattle.connection.specs.declared.reading.Carried.{Carried}
+
+-- A handled event raises the number by 1.
+abbrev pub raised : Connection → ℕ
+raised connection = connection .handled + 1
+
+-- The other bit.
+abbrev pub flipped : ℕ → ℕ
+flipped bit = cond (eqb bit 0) 1 0
+
+-- Locking sets state 9 and everything else 0 but the number.
+abbrev pub locked : (number : ℕ) → Connection
+locked number = record {
+  state = 9;
+  «awaiting_ack» = 0;
+  «next_send_bit» = 0;
+  «expected_bit» = 0;
+  «cached_len» = 0;
+  handled = number;
+  h = 0;
+  prover = 0;
+  verifier = 0;
+  dat = 0;
+  ra = 0;
+  ack = 0;
+}
+
+-- An event that doesn't lock: 2 keeps the payload's length and sets the flag, 19 clears both and flips the next-send bit,
+-- 18 flips the expected bit; the tags are given.
+abbrev pub moved : (Timer → ℕ) → (number : ℕ) → Connection → (code : ℕ) → Carried → (to : ℕ) → Connection
+moved tags number connection code carried to = record {
+  state = to;
+  «awaiting_ack» = cond (eqb code 2) 1 (cond (eqb code 19) 0 (connection .«awaiting_ack»));
+  «next_send_bit» = cond (eqb code 19) (flipped (connection .«next_send_bit»)) (connection .«next_send_bit»);
+  «expected_bit» = cond (eqb code 18) (flipped (connection .«expected_bit»)) (connection .«expected_bit»);
+  «cached_len» = cond (eqb code 2) (carried .«payload_len») (cond (eqb code 19) 0 (connection .«cached_len»));
+  handled = number;
+  h = tags H;
+  prover = tags HP;
+  verifier = tags HV;
+  dat = tags DAT;
+  ra = tags RA;
+  ack = tags ACK;
+}
+
+-- Each timer's tag by its rules.
+abbrev pub tagsAfter : Connection → (code to : ℕ) → Timer → ℕ
+tagsAfter connection code to timer =
+    tagAfter (starts timer code (connection .state) to) (ends timer code (connection .state) to)
+    (raised connection) (tagOf connection timer)
+
+-- The record after a handled event that leads to a state.
+unfoldable pub advance : Connection → (code : ℕ) → Carried → (to : ℕ) → Connection
+advance connection code carried to =
+    cond (eqb to 9) (locked (raised connection))
+    (moved (tagsAfter connection code to) (raised connection) connection code carried to)

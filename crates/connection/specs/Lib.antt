@@ -1,0 +1,15 @@
+pub mod Limits
+pub mod Sets
+pub mod Orders
+pub mod Table
+pub mod Kind
+pub mod Call
+pub mod Timers
+pub mod Condition
+pub mod WellFormed
+pub mod Refusal
+pub mod Advance
+pub mod Actions
+pub mod Block
+pub mod Step
+pub mod ByEvent

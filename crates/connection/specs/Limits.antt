@@ -1,0 +1,13 @@
+-- Document 01, "Refusal numbers": the limits of a payload, of the cache and of the number of handled events.
+-- Every definition that uses a limit takes it from a parameter of this type.
+use Prim.Native.Nat.{ℕ}
+
+pub record Limits : Type 0 where
+  -- The most bytes of a payload and of the cached block, and the fewest bytes of a cache.
+  pub payload : ℕ
+  -- The largest number of handled events.
+  pub handled : ℕ
+
+-- Document 01's limits.
+abbrev pub limits : Limits
+limits = record { payload = 4096; handled = 4294967295 }

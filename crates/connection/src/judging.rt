@@ -1,0 +1,120 @@
+// What becomes of an event: refused, ignored or handled.
+ghost use mathlib.Core.Path.{_≡_};
+ghost use mathlib.Core.Bool.{not};
+ghost use mathlib.Core.List.{_∷_, [], _++_};
+ghost use Prim.Native.Nat.{_<_};
+ghost use Rattle.connection.specs.ByEvent.{byCode};
+ghost use Rattle.connection.specs.Limits.{limits};
+ghost use Rattle.connection.specs.Refusal.{firstFault, argumentFaults};
+ghost use Rattle.connection.specs.Step.{unchanged, decided};
+ghost use Rattle.connection.specs.WellFormed.{wellFormed};
+use crate::Answer;
+use crate::Connection;
+use crate::Outcome;
+use crate::codes;
+use crate::condition::condition;
+use crate::locking::lock;
+use crate::moves;
+use crate::moves::NO_ACTIONS;
+use crate::reading::Carried;
+use crate::states;
+use crate::table::IGNORED;
+use crate::table::next_state;
+use crate::well_formed::well_formed;
+
+const MAX_TIMER: u32 = 2;
+
+const MAX_BIT: u32 = 1;
+
+const MAX_HANDLED: u32 = 4_294_967_295;
+
+// The answer, the record and the actions of a call.
+pub(crate) fn decide(connection: Connection, code: u32, carried: Carried) -> Outcome
+    ensures { λ r. ⌜ r ≡ decided limits connection code carried ⌝ }
+{
+    let fault = lowest_fault(connection, code, carried);
+    if fault != 0 {
+        return unmoved(Answer::Refused(fault), connection);
+    }
+    let held = condition(connection, code, carried);
+    let to = next_state(connection.state, connection.awaiting_ack, code, held);
+    if to == IGNORED {
+        return unmoved(Answer::Ignored, connection);
+    }
+    if connection.handled >= MAX_HANDLED {
+        return unmoved(Answer::Refused(8), connection);
+    }
+    handle(connection, code, carried, to, connection.handled + 1)
+}
+
+// Refused or ignored: the same record, no actions.
+fn unmoved(answer: Answer, connection: Connection) -> Outcome
+    ensures { λ r. ⌜ r ≡ unchanged answer connection ⌝ }
+{
+    Outcome {
+        answer,
+        connection,
+        actions: NO_ACTIONS,
+    }
+}
+
+// The lowest refusal from 1 to 7 whose fault is present, 0 if none is.
+fn lowest_fault(connection: Connection, code: u32, carried: Carried) -> u32
+    ensures { λ r. ⌜ r ≡ firstFault 1 (argumentFaults code carried ++ (not (wellFormed limits connection) ∷ [])) ⌝ }
+{
+    if code > codes::ACK_TIMEOUT {
+        return 1;
+    }
+    if carried.timer > MAX_TIMER {
+        return 2;
+    }
+    if carried.bit > MAX_BIT {
+        return 3;
+    }
+    if carried.payload_too_long {
+        return 4;
+    }
+    if carried.cache_too_short {
+        return 5;
+    }
+    if carried.suites.too_long {
+        return 6;
+    }
+    if !well_formed(connection) {
+        return 7;
+    }
+    0
+}
+
+// A handled event, by its code.
+fn handle(connection: Connection, code: u32, carried: Carried, to: u32, number: u32) -> Outcome
+    requires { ⌜ code < 24 ⌝ }
+    ensures { λ r. ⌜ r ≡ byCode number connection code carried to ⌝ }
+{
+    if to == states::CLOSED_LOCKED {
+        return lock(connection, code, carried, number);
+    }
+    match code {
+        codes::UPPER_START_HANDSHAKE => moves::start_handshake(connection, carried, to, number),
+        codes::UPPER_SEND_DATA => moves::send_data(connection, carried, to, number),
+        codes::UPPER_RE_RA | codes::RA_TIMEOUT => {
+            moves::verify_again(connection, code, carried, to, number)
+        }
+        codes::RA_VERIFIER_OK => moves::verifier_ok(connection, carried, to, number),
+        codes::RA_PROVER_OK => moves::prover_ok(connection, carried, to, number),
+        codes::RA_VERIFIER_MSG
+        | codes::RA_PROVER_MSG
+        | codes::SC_RA_PROVER
+        | codes::SC_RA_VERIFIER => moves::exchange(connection, code, carried, to, number),
+        codes::SC_HELLO => moves::open_connection(connection, carried, to, number),
+        codes::SC_DAT => moves::renew_token(connection, carried, to, number),
+        codes::SC_DAT_EXPIRED | codes::SC_RE_RA => {
+            moves::prove_again(connection, code, carried, to, number)
+        }
+        codes::SC_DATA => moves::receive_data(connection, carried, to, number),
+        codes::SC_ACK => moves::receive_ack(connection, carried, to, number),
+        codes::DAT_TIMEOUT => moves::expire_token(connection, carried, to, number),
+        codes::ACK_TIMEOUT => moves::repeat_data(connection, carried, to, number),
+        _ => moves::count(connection, code, carried, to, number),
+    }
+}

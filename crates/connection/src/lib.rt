@@ -1,0 +1,167 @@
+// The transport layer state machine of IDSCP2: one step for one event.
+//
+// The host runs sockets, timers, attestation drivers and the check of a token's signature. It hands
+// in what happened, and carries out the actions that it gets back.
+ghost use mathlib.Core.Path.{_≡_};
+ghost use Rattle.connection.specs.Limits.{limits};
+ghost use Rattle.connection.specs.Block.{partOf};
+ghost use Rattle.connection.specs.Call.{callOf};
+ghost use Rattle.connection.specs.WellFormed as spec;
+ghost use Rattle.connection.specs.Step.{resultOf};
+
+mod block;
+pub mod codes;
+mod condition;
+mod judging;
+mod locking;
+mod moves;
+pub mod orders;
+mod reading;
+pub mod states;
+mod table;
+mod well_formed;
+
+use crate::block::front;
+use crate::block::store;
+use crate::judging::decide;
+use crate::reading::choose_suites;
+use crate::reading::read;
+
+// The record of a connection. A tag is 0 when its driver or timer is off, else the number of the
+// handled event that started it.
+pub struct Connection {
+    pub state: u32,
+    // Document 01's ack flag: 1 while a block waits for its acknowledgement.
+    pub awaiting_ack: u32,
+    pub next_send_bit: u32,
+    pub expected_bit: u32,
+    pub cached_len: u32,
+    // The number of handled events.
+    pub handled: u32,
+    // Tags. The prover's is also its timer HP's, the verifier's also HV's.
+    pub h: u32,
+    pub prover: u32,
+    pub verifier: u32,
+    pub dat: u32,
+    pub ra: u32,
+    pub ack: u32,
+}
+
+// An event as the host hands it over. Only the fields that its code carries are read.
+pub struct Event {
+    pub code: u32,
+    pub tag: u32,
+    // Of a handshake timeout: 0 H, 1 HP, 2 HV.
+    pub timer: u32,
+    pub bit: u32,
+    // The host's verdict on the token, its expiry and the time now, in seconds.
+    pub verdict: bool,
+    pub expiry: i64,
+    pub now: i64,
+}
+
+// What the host is to do: document 01's order sheet. The numbers are in `orders`.
+pub struct Actions {
+    pub message: u32,
+    // Orders to the drivers.
+    pub prover: u32,
+    pub verifier: u32,
+    // Orders to the timers.
+    pub h: u32,
+    pub hp: u32,
+    pub hv: u32,
+    pub dat: u32,
+    pub ra: u32,
+    pub ack: u32,
+    // The length of the DAT timer, where it starts.
+    pub dat_seconds: u32,
+    // The bit of a DATA or ACK.
+    pub bit: u32,
+    // Whether the payload goes up to the application.
+    pub deliver: bool,
+    // The chosen suites, where the connection opens.
+    pub verifier_suite: u32,
+    pub prover_suite: u32,
+    // The slice of the payload, and its length.
+    pub payload: u32,
+    pub payload_len: u32,
+}
+
+pub enum Answer {
+    Handled,
+    Ignored,
+    Refused(u32),
+}
+
+pub struct Outcome {
+    pub answer: Answer,
+    pub connection: Connection,
+    pub actions: Actions,
+}
+
+// The record of a new connection.
+pub fn fresh() -> Connection
+    ensures { λ r. ⌜ r ≡ spec.fresh ⌝ }
+{
+    Connection {
+        state: states::CLOSED_UNLOCKED,
+        awaiting_ack: 0,
+        next_send_bit: 0,
+        expected_bit: 0,
+        cached_len: 0,
+        handled: 0,
+        h: 0,
+        prover: 0,
+        verifier: 0,
+        dat: 0,
+        ra: 0,
+        ack: 0,
+    }
+}
+
+// One step. A handled `UPPER_SEND_DATA` stores its payload in the cache; nothing else writes it.
+pub fn step(
+    connection: Connection,
+    event: Event,
+    payload: &[u8],
+    our_verifiers: &[u32],
+    peer_provers: &[u32],
+    peer_verifiers: &[u32],
+    our_provers: &[u32],
+    cache: &mut [u8],
+) -> Outcome
+    ensures { λ r. ⌜ r ≡ resultOf limits connection (callOf event (now (payload .entry)) (now («our_verifiers» .entry)) (now («peer_provers» .entry)) (now («peer_verifiers» .entry)) (now («our_provers» .entry))) (now (cache .entry)) .outcome ⌝ }
+    ensures { λ _. ⌜ now (cache .exit) ≡ resultOf limits connection (callOf event (now (payload .entry)) (now («our_verifiers» .entry)) (now («peer_provers» .entry)) (now («peer_verifiers» .entry)) (now («our_provers» .entry))) (now (cache .entry)) .cache ⌝ }
+{
+    let code = event.code;
+    let suites = choose_suites(
+        code,
+        our_verifiers,
+        peer_provers,
+        peer_verifiers,
+        our_provers,
+    );
+    let carried = read(event, payload.len(), cache.len(), suites);
+    let outcome = decide(connection, code, carried);
+    let answer = outcome.answer;
+    let Answer::Handled = answer else {
+        return outcome;
+    };
+    if code == codes::UPPER_SEND_DATA {
+        store(cache, payload);
+    }
+    outcome
+}
+
+// The payload part of a call's actions: of the event's payload, or of the cache as the step left it.
+pub fn part<'a>(actions: Actions, payload: &'a [u8], cache: &'a [u8]) -> &'a [u8]
+    ensures { λ r. ⌜ now r ≡ partOf actions (now (payload .entry)) (now (cache .entry)) ⌝ }
+{
+    let slice = actions.payload;
+    let len = actions.payload_len as usize;
+    match slice {
+        orders::OF_EVENT => front(payload, len),
+        orders::OF_CACHE => front(cache, len),
+        _ => front(payload, 0),
+    }
+}

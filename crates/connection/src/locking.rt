@@ -1,0 +1,93 @@
+// Handled events that lock the connection.
+ghost use mathlib.Core.Path.{_≡_};
+ghost use mathlib.Core.Bool.{true, false};
+ghost use Rattle.connection.specs.Actions.{closing, stopped};
+ghost use Rattle.connection.specs.Advance.{locked};
+ghost use Rattle.connection.specs.ByEvent.{byLocking};
+ghost use Rattle.connection.specs.Timers.{timerOrder};
+use crate::Actions;
+use crate::Answer;
+use crate::Connection;
+use crate::Outcome;
+use crate::codes;
+use crate::moves::NO_ACTIONS;
+use crate::orders;
+use crate::reading::Carried;
+use crate::states;
+
+// CLOSE, but none to an error or to the peer's own close.
+fn closing_message(code: u32) -> u32
+    ensures { λ r. ⌜ r ≡ closing code ⌝ }
+{
+    if (code == codes::SC_ERROR) | (code == codes::SC_CLOSE) {
+        orders::NONE
+    } else {
+        orders::CLOSE
+    }
+}
+
+// The order to a running driver, unless it has reported OK or FAILED.
+fn stop(reported: bool, tag: u32) -> u32
+    ensures { λ r. ⌜ r ≡ stopped reported tag ⌝ }
+{
+    if !reported & (tag != 0) {
+        orders::STOP
+    } else {
+        orders::NONE
+    }
+}
+
+// The order to a running timer, unless this event reports it.
+fn cancel(reported: bool, tag: u32) -> u32
+    ensures { λ r. ⌜ r ≡ timerOrder false true reported tag ⌝ }
+{
+    if !reported & (tag != 0) {
+        orders::CANCEL
+    } else {
+        orders::NONE
+    }
+}
+
+// The record of a locked connection.
+fn locked_record(number: u32) -> Connection
+    ensures { λ r. ⌜ r ≡ locked number ⌝ }
+{
+    Connection {
+        state: states::CLOSED_LOCKED,
+        awaiting_ack: 0,
+        next_send_bit: 0,
+        expected_bit: 0,
+        cached_len: 0,
+        handled: number,
+        h: 0,
+        prover: 0,
+        verifier: 0,
+        dat: 0,
+        ra: 0,
+        ack: 0,
+    }
+}
+
+// Stops every driver and cancels every timer that runs.
+pub(crate) fn lock(connection: Connection, code: u32, carried: Carried, number: u32) -> Outcome
+    ensures { λ r. ⌜ r ≡ byLocking number connection code carried ⌝ }
+{
+    let timeout = code == codes::HANDSHAKE_TIMEOUT;
+    let proved = (code == codes::RA_PROVER_OK) | (code == codes::RA_PROVER_FAILED);
+    let verified = (code == codes::RA_VERIFIER_OK) | (code == codes::RA_VERIFIER_FAILED);
+    let mut actions = NO_ACTIONS;
+    actions.message = closing_message(code);
+    actions.prover = stop(proved, connection.prover);
+    actions.verifier = stop(verified, connection.verifier);
+    actions.h = cancel(timeout & (carried.timer == 0), connection.h);
+    actions.hp = cancel(timeout & (carried.timer == 1), connection.prover);
+    actions.hv = cancel(timeout & (carried.timer == 2), connection.verifier);
+    actions.dat = cancel(code == codes::DAT_TIMEOUT, connection.dat);
+    actions.ra = cancel(code == codes::RA_TIMEOUT, connection.ra);
+    actions.ack = cancel(code == codes::ACK_TIMEOUT, connection.ack);
+    Outcome {
+        answer: Answer::Handled,
+        connection: locked_record(number),
+        actions,
+    }
+}

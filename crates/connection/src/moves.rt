@@ -1,0 +1,414 @@
+// Handled events that don't lock: one function for each row of the published table, with the record
+// and the actions of that row. What it doesn't set stays as it is.
+ghost use mathlib.Core.Path.{_≡_};
+ghost use mathlib.Core.Bool.{cond};
+ghost use mathlib.Core.List.{_∷_, []};
+ghost use types.Run.{OneOf};
+ghost use Rattle.connection.specs.Advance.{flipped};
+ghost use Rattle.connection.specs.ByEvent.{clear, orderBy, byEvent};
+use crate::Actions;
+use crate::Answer;
+use crate::Connection;
+use crate::Outcome;
+use crate::codes;
+use crate::orders;
+use crate::reading::Carried;
+use crate::states;
+
+// The empty order sheet.
+pub(crate) const NO_ACTIONS: Actions = Actions {
+    message: orders::NONE,
+    prover: orders::NONE,
+    verifier: orders::NONE,
+    h: orders::NONE,
+    hp: orders::NONE,
+    hv: orders::NONE,
+    dat: orders::NONE,
+    ra: orders::NONE,
+    ack: orders::NONE,
+    dat_seconds: 0,
+    bit: 0,
+    deliver: false,
+    verifier_suite: 0,
+    prover_suite: 0,
+    payload: orders::NONE,
+    payload_len: 0,
+};
+
+fn pick(test: bool, yes: u32, no: u32) -> u32
+    ensures { λ r. ⌜ r ≡ cond test yes «no» ⌝ }
+{
+    if test { yes } else { no }
+}
+
+// The other bit.
+fn flip(bit: u32) -> u32
+    ensures { λ r. ⌜ r ≡ flipped bit ⌝ }
+{
+    pick(bit == 0, 1, 0)
+}
+
+// The order to a timer that ends; one with tag 0 doesn't run and gets none.
+fn end(tag: u32) -> u32
+    ensures { λ r. ⌜ r ≡ orderBy clear tag ⌝ }
+{
+    pick(tag == 0, orders::NONE, orders::CANCEL)
+}
+
+// UPPER_START_HANDSHAKE: greets the peer.
+pub(crate) fn start_handshake(
+    connection: Connection,
+    carried: Carried,
+    to: u32,
+    number: u32,
+) -> Outcome
+    ensures { λ r. ⌜ r ≡ byEvent number connection 0 carried to ⌝ }
+{
+    let mut after = connection;
+    after.state = to;
+    after.handled = number;
+    after.h = number;
+    let mut actions = NO_ACTIONS;
+    actions.message = orders::HELLO;
+    actions.h = orders::START;
+    Outcome {
+        answer: Answer::Handled,
+        connection: after,
+        actions,
+    }
+}
+
+// A good SC_HELLO: opens the connection, with both drivers at work.
+pub(crate) fn open_connection(
+    connection: Connection,
+    carried: Carried,
+    to: u32,
+    number: u32,
+) -> Outcome
+    ensures { λ r. ⌜ r ≡ byEvent number connection 11 carried to ⌝ }
+{
+    let mut after = connection;
+    after.state = to;
+    after.handled = number;
+    after.h = 0;
+    after.prover = number;
+    after.verifier = number;
+    after.dat = number;
+    let mut actions = NO_ACTIONS;
+    actions.prover = orders::START;
+    actions.verifier = orders::START;
+    actions.h = orders::CANCEL;
+    actions.hp = orders::START;
+    actions.hv = orders::START;
+    actions.dat = orders::START;
+    actions.dat_seconds = carried.seconds;
+    actions.verifier_suite = carried.suites.verifier;
+    actions.prover_suite = carried.suites.prover;
+    Outcome {
+        answer: Answer::Handled,
+        connection: after,
+        actions,
+    }
+}
+
+// RA_VERIFIER_OK: the peer is attested until RA runs out.
+pub(crate) fn verifier_ok(connection: Connection, carried: Carried, to: u32, number: u32) -> Outcome
+    ensures { λ r. ⌜ r ≡ byEvent number connection 4 carried to ⌝ }
+{
+    let waits = to == states::WAIT_FOR_ACK;
+    let mut after = connection;
+    after.state = to;
+    after.handled = number;
+    after.verifier = 0;
+    after.ra = number;
+    after.ack = pick(waits, number, connection.ack);
+    let mut actions = NO_ACTIONS;
+    actions.hv = orders::CANCEL;
+    actions.ra = orders::START;
+    actions.ack = pick(waits, orders::START, orders::NONE);
+    Outcome {
+        answer: Answer::Handled,
+        connection: after,
+        actions,
+    }
+}
+
+// RA_PROVER_OK: we are attested to the peer.
+pub(crate) fn prover_ok(connection: Connection, carried: Carried, to: u32, number: u32) -> Outcome
+    ensures { λ r. ⌜ r ≡ byEvent number connection 7 carried to ⌝ }
+{
+    let waits = to == states::WAIT_FOR_ACK;
+    let mut after = connection;
+    after.state = to;
+    after.handled = number;
+    after.prover = 0;
+    after.ack = pick(waits, number, connection.ack);
+    let mut actions = NO_ACTIONS;
+    actions.hp = orders::CANCEL;
+    actions.ack = pick(waits, orders::START, orders::NONE);
+    Outcome {
+        answer: Answer::Handled,
+        connection: after,
+        actions,
+    }
+}
+
+// RA_VERIFIER_MSG and RA_PROVER_MSG go to the peer; SC_RA_PROVER and SC_RA_VERIFIER to our drivers.
+pub(crate) fn exchange(
+    connection: Connection,
+    code: u32,
+    carried: Carried,
+    to: u32,
+    number: u32,
+) -> Outcome
+    requires { ⌜ OneOf (6 ∷ 9 ∷ 15 ∷ 16 ∷ []) code ⌝ }
+    ensures { λ r. ⌜ r ≡ byEvent number connection code carried to ⌝ }
+{
+    let mut after = connection;
+    after.state = to;
+    after.handled = number;
+    let own = pick(
+        code == codes::RA_PROVER_MSG,
+        orders::RA_PROVER,
+        orders::NONE,
+    );
+    let mut actions = NO_ACTIONS;
+    actions.message = pick(code == codes::RA_VERIFIER_MSG, orders::RA_VERIFIER, own);
+    actions.verifier = pick(code == codes::SC_RA_PROVER, orders::FORWARD, orders::NONE);
+    actions.prover = pick(code == codes::SC_RA_VERIFIER, orders::FORWARD, orders::NONE);
+    actions.payload = orders::OF_EVENT;
+    actions.payload_len = carried.payload_len;
+    Outcome {
+        answer: Answer::Handled,
+        connection: after,
+        actions,
+    }
+}
+
+// SC_DAT_EXPIRED and SC_RE_RA: we prove ourselves again, to the former with a fresh token.
+pub(crate) fn prove_again(
+    connection: Connection,
+    code: u32,
+    carried: Carried,
+    to: u32,
+    number: u32,
+) -> Outcome
+    requires { ⌜ OneOf (14 ∷ 17 ∷ []) code ⌝ }
+    ensures { λ r. ⌜ r ≡ byEvent number connection code carried to ⌝ }
+{
+    let mut after = connection;
+    after.state = to;
+    after.handled = number;
+    after.prover = number;
+    after.ack = 0;
+    let mut actions = NO_ACTIONS;
+    actions.message = pick(code == codes::SC_DAT_EXPIRED, orders::DAT, orders::NONE);
+    actions.prover = orders::START;
+    actions.hp = orders::START;
+    actions.ack = end(connection.ack);
+    Outcome {
+        answer: Answer::Handled,
+        connection: after,
+        actions,
+    }
+}
+
+// A good SC_DAT: the token is current again, and the peer has to prove itself.
+pub(crate) fn renew_token(connection: Connection, carried: Carried, to: u32, number: u32) -> Outcome
+    ensures { λ r. ⌜ r ≡ byEvent number connection 13 carried to ⌝ }
+{
+    let mut after = connection;
+    after.state = to;
+    after.handled = number;
+    after.h = 0;
+    after.verifier = number;
+    after.dat = number;
+    after.ra = 0;
+    let mut actions = NO_ACTIONS;
+    actions.verifier = orders::START;
+    actions.h = orders::CANCEL;
+    actions.hv = orders::START;
+    actions.dat = orders::START;
+    actions.ra = end(connection.ra);
+    actions.dat_seconds = carried.seconds;
+    Outcome {
+        answer: Answer::Handled,
+        connection: after,
+        actions,
+    }
+}
+
+// UPPER_RE_RA and RA_TIMEOUT: the peer has to prove itself again.
+pub(crate) fn verify_again(
+    connection: Connection,
+    code: u32,
+    carried: Carried,
+    to: u32,
+    number: u32,
+) -> Outcome
+    requires { ⌜ OneOf (3 ∷ 22 ∷ []) code ⌝ }
+    ensures { λ r. ⌜ r ≡ byEvent number connection code carried to ⌝ }
+{
+    let mut after = connection;
+    after.state = to;
+    after.handled = number;
+    after.verifier = number;
+    after.ra = 0;
+    after.ack = 0;
+    let mut actions = NO_ACTIONS;
+    actions.message = orders::RE_RA;
+    actions.verifier = orders::START;
+    actions.hv = orders::START;
+    actions.ra = pick(code == codes::UPPER_RE_RA, orders::CANCEL, orders::NONE);
+    actions.ack = end(connection.ack);
+    Outcome {
+        answer: Answer::Handled,
+        connection: after,
+        actions,
+    }
+}
+
+// DAT_TIMEOUT: the peer has to send a fresh token, and is then verified anew. RA, if it runs in
+// WAIT_FOR_RA_PROVER, runs on.
+pub(crate) fn expire_token(
+    connection: Connection,
+    carried: Carried,
+    to: u32,
+    number: u32,
+) -> Outcome
+    ensures { λ r. ⌜ r ≡ byEvent number connection 21 carried to ⌝ }
+{
+    let ready = (connection.state == states::ESTABLISHED)
+        | (connection.state == states::WAIT_FOR_ACK);
+    let mut after = connection;
+    after.state = to;
+    after.handled = number;
+    after.h = number;
+    after.verifier = 0;
+    after.dat = 0;
+    after.ra = pick(ready, 0, connection.ra);
+    after.ack = 0;
+    let mut actions = NO_ACTIONS;
+    actions.message = orders::DAT_EXPIRED;
+    actions.verifier = pick(connection.verifier != 0, orders::STOP, orders::NONE);
+    actions.h = orders::START;
+    actions.hv = end(connection.verifier);
+    actions.ra = pick(ready, orders::CANCEL, orders::NONE);
+    actions.ack = end(connection.ack);
+    Outcome {
+        answer: Answer::Handled,
+        connection: after,
+        actions,
+    }
+}
+
+// UPPER_SEND_DATA: the block is cached and sent.
+pub(crate) fn send_data(connection: Connection, carried: Carried, to: u32, number: u32) -> Outcome
+    ensures { λ r. ⌜ r ≡ byEvent number connection 2 carried to ⌝ }
+{
+    let mut after = connection;
+    after.state = to;
+    after.awaiting_ack = 1;
+    after.cached_len = carried.payload_len;
+    after.handled = number;
+    after.ack = number;
+    let mut actions = NO_ACTIONS;
+    actions.message = orders::DATA;
+    actions.ack = orders::START;
+    actions.bit = connection.next_send_bit;
+    actions.payload = orders::OF_CACHE;
+    actions.payload_len = carried.payload_len;
+    Outcome {
+        answer: Answer::Handled,
+        connection: after,
+        actions,
+    }
+}
+
+// SC_DATA with the expected bit: the block is acknowledged and goes up.
+pub(crate) fn receive_data(
+    connection: Connection,
+    carried: Carried,
+    to: u32,
+    number: u32,
+) -> Outcome
+    ensures { λ r. ⌜ r ≡ byEvent number connection 18 carried to ⌝ }
+{
+    let mut after = connection;
+    after.state = to;
+    after.expected_bit = flip(connection.expected_bit);
+    after.handled = number;
+    let mut actions = NO_ACTIONS;
+    actions.message = orders::ACK;
+    actions.bit = carried.bit;
+    actions.deliver = true;
+    actions.payload = orders::OF_EVENT;
+    actions.payload_len = carried.payload_len;
+    Outcome {
+        answer: Answer::Handled,
+        connection: after,
+        actions,
+    }
+}
+
+// SC_ACK of the waiting block.
+pub(crate) fn receive_ack(connection: Connection, carried: Carried, to: u32, number: u32) -> Outcome
+    ensures { λ r. ⌜ r ≡ byEvent number connection 19 carried to ⌝ }
+{
+    let mut after = connection;
+    after.state = to;
+    after.awaiting_ack = 0;
+    after.next_send_bit = flip(connection.next_send_bit);
+    after.cached_len = 0;
+    after.handled = number;
+    after.ack = 0;
+    let mut actions = NO_ACTIONS;
+    actions.ack = end(connection.ack);
+    Outcome {
+        answer: Answer::Handled,
+        connection: after,
+        actions,
+    }
+}
+
+// ACK_TIMEOUT: the cached block is sent again.
+pub(crate) fn repeat_data(connection: Connection, carried: Carried, to: u32, number: u32) -> Outcome
+    ensures { λ r. ⌜ r ≡ byEvent number connection 23 carried to ⌝ }
+{
+    let mut after = connection;
+    after.state = to;
+    after.handled = number;
+    after.ack = number;
+    let mut actions = NO_ACTIONS;
+    actions.message = orders::DATA;
+    actions.ack = orders::START;
+    actions.bit = connection.next_send_bit;
+    actions.payload = orders::OF_CACHE;
+    actions.payload_len = connection.cached_len;
+    Outcome {
+        answer: Answer::Handled,
+        connection: after,
+        actions,
+    }
+}
+
+// Any other event that the table doesn't lead to a lock: there is none, and this raises the number.
+pub(crate) fn count(
+    connection: Connection,
+    code: u32,
+    carried: Carried,
+    to: u32,
+    number: u32,
+) -> Outcome
+    requires { ⌜ OneOf (1 ∷ 5 ∷ 8 ∷ 10 ∷ 12 ∷ 20 ∷ []) code ⌝ }
+    ensures { λ r. ⌜ r ≡ byEvent number connection code carried to ⌝ }
+{
+    let mut after = connection;
+    after.state = to;
+    after.handled = number;
+    Outcome {
+        answer: Answer::Handled,
+        connection: after,
+        actions: NO_ACTIONS,
+    }
+}
