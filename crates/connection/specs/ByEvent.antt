@@ -96,10 +96,9 @@ byLocking number connection code carried = record {
   actions = lockingSheet (ordersOf connection code carried 9) connection code;
 }
 
--- A handled event.
-abbrev pub byCode : (number : ℕ) → Connection → (code : ℕ) → Carried → (to : ℕ) → Outcome
-byCode number connection code carried to =
-    cond (eqb to 9) (byLocking number connection code carried) (byEvent number connection code carried to)
+-- The events that are handled without a lock in some state.
+abbrev pub moving : List ℕ
+moving = 0 ∷ 2 ∷ 3 ∷ 4 ∷ 6 ∷ 7 ∷ 9 ∷ 11 ∷ 13 ∷ 14 ∷ 15 ∷ 16 ∷ 17 ∷ 18 ∷ 19 ∷ 21 ∷ 22 ∷ 23 ∷ []
 
 -- What follows a driver's report: OK leads on, FAILED locks, a message stays.
 abbrev pub reported : (code ok stay : ℕ) → ℕ

@@ -8,20 +8,20 @@ use Rattle.token.specs.SecondsLeft.{secondsLeft}
 use Rattle.token.specs.Good as token
 use Rattle.connection.specs.declared.Event.{Event}
 use Rattle.connection.specs.declared.reading.EventKind.{EventKind}
-use Rattle.connection.specs.declared.reading.EventKind.the-variants.{Plain, Tagged, HandshakeTimeout, Block, Token}
+use Rattle.connection.specs.declared.reading.EventKind.the-variants.{Plain, Tagged, HandshakeTimeout, Bit, Token}
 
 -- The kinds of codes 0 to 23: 4 to 9 and 20 to 23 carry a tag, 20 also the name of its timer, 18 and 19 a bit, 11 and 13 a token.
 abbrev pub kinds : Event → List EventKind
 kinds event =
     let tagged = Tagged (event .tag) in
     let timeout = HandshakeTimeout (event .tag) (event .timer) in
-    let block = Block (event .bit) in
+    let bit = Bit (event .bit) in
     let token = Token (event .verdict) (event .expiry) (event .now) in
     Plain ∷ Plain ∷ Plain ∷ Plain
     ∷ tagged ∷ tagged ∷ tagged ∷ tagged ∷ tagged ∷ tagged
     ∷ Plain ∷ token ∷ Plain ∷ token
     ∷ Plain ∷ Plain ∷ Plain ∷ Plain
-    ∷ block ∷ block
+    ∷ bit ∷ bit
     ∷ timeout ∷ tagged ∷ tagged ∷ tagged
     ∷ []
 
@@ -35,21 +35,29 @@ abbrev pub tagIn : EventKind → ℕ
 tagIn Plain = 0
 tagIn (Tagged tag) = tag
 tagIn (HandshakeTimeout tag timer) = tag
-tagIn (Block bit) = 0
+tagIn (Bit bit) = 0
 tagIn (Token verdict expiry now) = 0
+
+-- The tag of a handshake timeout alone.
+abbrev pub timeoutTagIn : EventKind → ℕ
+timeoutTagIn Plain = 0
+timeoutTagIn (Tagged tag) = 0
+timeoutTagIn (HandshakeTimeout tag timer) = tag
+timeoutTagIn (Bit bit) = 0
+timeoutTagIn (Token verdict expiry now) = 0
 
 abbrev pub timerIn : EventKind → ℕ
 timerIn Plain = 0
 timerIn (Tagged tag) = 0
 timerIn (HandshakeTimeout tag timer) = timer
-timerIn (Block bit) = 0
+timerIn (Bit bit) = 0
 timerIn (Token verdict expiry now) = 0
 
 abbrev pub bitIn : EventKind → ℕ
 bitIn Plain = 0
 bitIn (Tagged tag) = 0
 bitIn (HandshakeTimeout tag timer) = 0
-bitIn (Block bit) = bit
+bitIn (Bit bit) = bit
 bitIn (Token verdict expiry now) = 0
 
 -- Whether there is a good token.
@@ -57,7 +65,7 @@ abbrev pub goodIn : EventKind → Bool
 goodIn Plain = false
 goodIn (Tagged tag) = false
 goodIn (HandshakeTimeout tag timer) = false
-goodIn (Block bit) = false
+goodIn (Bit bit) = false
 goodIn (Token verdict expiry now) = token.good verdict (secondsLeft expiry now)
 
 -- The seconds left of a good token.
@@ -65,5 +73,5 @@ abbrev pub secondsIn : EventKind → ℕ
 secondsIn Plain = 0
 secondsIn (Tagged tag) = 0
 secondsIn (HandshakeTimeout tag timer) = 0
-secondsIn (Block bit) = 0
+secondsIn (Bit bit) = 0
 secondsIn (Token verdict expiry now) = token.goodSeconds verdict (secondsLeft expiry now)

@@ -2,8 +2,8 @@
 ghost use mathlib.Core.Path.{_≡_};
 ghost use mathlib.Core.Bool.{not};
 ghost use mathlib.Core.List.{_∷_, [], _++_};
-ghost use Prim.Native.Nat.{_<_};
-ghost use Rattle.connection.specs.ByEvent.{byCode};
+ghost use types.Run.{OneOf};
+ghost use Rattle.connection.specs.ByEvent.{moving, byEvent};
 ghost use Rattle.connection.specs.Limits.{limits};
 ghost use Rattle.connection.specs.Refusal.{firstFault, argumentFaults};
 ghost use Rattle.connection.specs.Step.{unchanged, decided};
@@ -41,10 +41,15 @@ pub(crate) fn decide(connection: Connection, code: u32, carried: Carried) -> Out
     if to == IGNORED {
         return unmoved(Answer::Ignored, connection);
     }
-    if connection.handled >= MAX_HANDLED {
+    let handled = connection.handled;
+    if handled == MAX_HANDLED {
         return unmoved(Answer::Refused(8), connection);
     }
-    handle(connection, code, carried, to, connection.handled + 1)
+    let number = handled + 1;
+    if to == states::CLOSED_LOCKED {
+        return lock(connection, code, carried, number);
+    }
+    move_on(connection, code, carried, to, number)
 }
 
 // Refused or ignored: the same record, no actions.
@@ -86,14 +91,11 @@ fn lowest_fault(connection: Connection, code: u32, carried: Carried) -> u32
     0
 }
 
-// A handled event, by its code.
-fn handle(connection: Connection, code: u32, carried: Carried, to: u32, number: u32) -> Outcome
-    requires { ⌜ code < 24 ⌝ }
-    ensures { λ r. ⌜ r ≡ byCode number connection code carried to ⌝ }
+// A handled event that doesn't lock.
+fn move_on(connection: Connection, code: u32, carried: Carried, to: u32, number: u32) -> Outcome
+    requires { ⌜ OneOf moving code ⌝ }
+    ensures { λ r. ⌜ r ≡ byEvent number connection code carried to ⌝ }
 {
-    if to == states::CLOSED_LOCKED {
-        return lock(connection, code, carried, number);
-    }
     match code {
         codes::UPPER_START_HANDSHAKE => moves::start_handshake(connection, carried, to, number),
         codes::UPPER_SEND_DATA => moves::send_data(connection, carried, to, number),
@@ -102,19 +104,20 @@ fn handle(connection: Connection, code: u32, carried: Carried, to: u32, number: 
         }
         codes::RA_VERIFIER_OK => moves::verifier_ok(connection, carried, to, number),
         codes::RA_PROVER_OK => moves::prover_ok(connection, carried, to, number),
-        codes::RA_VERIFIER_MSG
-        | codes::RA_PROVER_MSG
-        | codes::SC_RA_PROVER
-        | codes::SC_RA_VERIFIER => moves::exchange(connection, code, carried, to, number),
+        codes::RA_VERIFIER_MSG | codes::RA_PROVER_MSG => {
+            moves::send_report(connection, code, carried, to, number)
+        }
         codes::SC_HELLO => moves::open_connection(connection, carried, to, number),
         codes::SC_DAT => moves::renew_token(connection, carried, to, number),
         codes::SC_DAT_EXPIRED | codes::SC_RE_RA => {
             moves::prove_again(connection, code, carried, to, number)
         }
+        codes::SC_RA_PROVER => moves::pass_on(connection, code, carried, to, number),
+        codes::SC_RA_VERIFIER => moves::pass_on(connection, code, carried, to, number),
         codes::SC_DATA => moves::receive_data(connection, carried, to, number),
         codes::SC_ACK => moves::receive_ack(connection, carried, to, number),
         codes::DAT_TIMEOUT => moves::expire_token(connection, carried, to, number),
-        codes::ACK_TIMEOUT => moves::repeat_data(connection, carried, to, number),
-        _ => moves::count(connection, code, carried, to, number),
+        // ACK_TIMEOUT: no other event moves on.
+        _ => moves::repeat_data(connection, carried, to, number),
     }
 }

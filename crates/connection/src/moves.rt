@@ -153,29 +153,50 @@ pub(crate) fn prover_ok(connection: Connection, carried: Carried, to: u32, numbe
     }
 }
 
-// RA_VERIFIER_MSG and RA_PROVER_MSG go to the peer; SC_RA_PROVER and SC_RA_VERIFIER to our drivers.
-pub(crate) fn exchange(
+// RA_VERIFIER_MSG and RA_PROVER_MSG: a driver's message goes to the peer.
+pub(crate) fn send_report(
     connection: Connection,
     code: u32,
     carried: Carried,
     to: u32,
     number: u32,
 ) -> Outcome
-    requires { ⌜ OneOf (6 ∷ 9 ∷ 15 ∷ 16 ∷ []) code ⌝ }
+    requires { ⌜ OneOf (6 ∷ 9 ∷ []) code ⌝ }
     ensures { λ r. ⌜ r ≡ byEvent number connection code carried to ⌝ }
 {
+    let verifier = code == codes::RA_VERIFIER_MSG;
     let mut after = connection;
     after.state = to;
     after.handled = number;
-    let own = pick(
-        code == codes::RA_PROVER_MSG,
-        orders::RA_PROVER,
-        orders::NONE,
-    );
     let mut actions = NO_ACTIONS;
-    actions.message = pick(code == codes::RA_VERIFIER_MSG, orders::RA_VERIFIER, own);
-    actions.verifier = pick(code == codes::SC_RA_PROVER, orders::FORWARD, orders::NONE);
-    actions.prover = pick(code == codes::SC_RA_VERIFIER, orders::FORWARD, orders::NONE);
+    actions.message = pick(verifier, orders::RA_VERIFIER, orders::RA_PROVER);
+    actions.payload = orders::OF_EVENT;
+    actions.payload_len = carried.payload_len;
+    Outcome {
+        answer: Answer::Handled,
+        connection: after,
+        actions,
+    }
+}
+
+// SC_RA_PROVER and SC_RA_VERIFIER: the peer's message goes to the driver of the other kind.
+pub(crate) fn pass_on(
+    connection: Connection,
+    code: u32,
+    carried: Carried,
+    to: u32,
+    number: u32,
+) -> Outcome
+    requires { ⌜ OneOf (15 ∷ 16 ∷ []) code ⌝ }
+    ensures { λ r. ⌜ r ≡ byEvent number connection code carried to ⌝ }
+{
+    let to_verifier = code == codes::SC_RA_PROVER;
+    let mut after = connection;
+    after.state = to;
+    after.handled = number;
+    let mut actions = NO_ACTIONS;
+    actions.prover = pick(to_verifier, orders::NONE, orders::FORWARD);
+    actions.verifier = pick(to_verifier, orders::FORWARD, orders::NONE);
     actions.payload = orders::OF_EVENT;
     actions.payload_len = carried.payload_len;
     Outcome {
@@ -389,26 +410,5 @@ pub(crate) fn repeat_data(connection: Connection, carried: Carried, to: u32, num
         answer: Answer::Handled,
         connection: after,
         actions,
-    }
-}
-
-// Any other event that the table doesn't lead to a lock: there is none, and this raises the number.
-pub(crate) fn count(
-    connection: Connection,
-    code: u32,
-    carried: Carried,
-    to: u32,
-    number: u32,
-) -> Outcome
-    requires { ⌜ OneOf (1 ∷ 5 ∷ 8 ∷ 10 ∷ 12 ∷ 20 ∷ []) code ⌝ }
-    ensures { λ r. ⌜ r ≡ byEvent number connection code carried to ⌝ }
-{
-    let mut after = connection;
-    after.state = to;
-    after.handled = number;
-    Outcome {
-        answer: Answer::Handled,
-        connection: after,
-        actions: NO_ACTIONS,
     }
 }

@@ -2,7 +2,7 @@
 // and a field is read only from the kind that carries it.
 ghost use mathlib.Core.Path.{_≡_};
 ghost use Rattle.connection.specs.Limits.{limits};
-ghost use Rattle.connection.specs.Kind.{kindOf, tagIn, timerIn, bitIn, secondsIn};
+ghost use Rattle.connection.specs.Kind.{kindOf, tagIn, timeoutTagIn, timerIn, bitIn, secondsIn};
 ghost use Rattle.connection.specs.Call.{chosenSuites, suitesOf, carriesPayload, shortLength, carriedBy};
 ghost use Rattle.suites.specs.Numbers.{foundOf, answerOf};
 use crate::Event;
@@ -36,7 +36,7 @@ pub enum EventKind {
         tag: u32,
         timer: u32,
     },
-    Block(u32),
+    Bit(u32),
     Token {
         verdict: bool,
         expiry: i64,
@@ -84,7 +84,7 @@ fn kind_of(event: Event) -> EventKind
             expiry: event.expiry,
             now: event.now,
         },
-        SC_DATA | SC_ACK => EventKind::Block(event.bit),
+        SC_DATA | SC_ACK => EventKind::Bit(event.bit),
         HANDSHAKE_TIMEOUT => EventKind::HandshakeTimeout {
             tag: event.tag,
             timer: event.timer,
@@ -98,10 +98,16 @@ fn kind_of(event: Event) -> EventKind
 fn tag_in(kind: EventKind) -> u32
     ensures { λ r. ⌜ r ≡ tagIn kind ⌝ }
 {
-    if let EventKind::HandshakeTimeout { tag, timer: _ } = kind {
-        return tag;
-    }
     let EventKind::Tagged(tag) = kind else {
+        return timeout_tag_in(kind);
+    };
+    tag
+}
+
+fn timeout_tag_in(kind: EventKind) -> u32
+    ensures { λ r. ⌜ r ≡ timeoutTagIn kind ⌝ }
+{
+    let EventKind::HandshakeTimeout { tag, timer: _ } = kind else {
         return 0;
     };
     tag
@@ -121,7 +127,7 @@ fn timer_in(kind: EventKind) -> u32
 fn bit_in(kind: EventKind) -> u32
     ensures { λ r. ⌜ r ≡ bitIn kind ⌝ }
 {
-    let EventKind::Block(bit) = kind else {
+    let EventKind::Bit(bit) = kind else {
         return 0;
     };
     bit

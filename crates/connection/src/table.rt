@@ -15,11 +15,7 @@ pub(crate) const IGNORED: u32 = 11;
 pub(crate) fn next_state(state: u32, awaiting_ack: u32, code: u32, held: bool) -> u32
     ensures { λ r. ⌜ r ≡ settled «awaiting_ack» (cell state code held) ⌝ }
 {
-    let next = if held {
-        met(state, code)
-    } else {
-        unmet(state, code)
-    };
+    let next = follow(state, code, held);
     if next != SETTLED {
         return next;
     }
@@ -27,6 +23,17 @@ pub(crate) fn next_state(state: u32, awaiting_ack: u32, code: u32, held: bool) -
         states::WAIT_FOR_ACK
     } else {
         states::ESTABLISHED
+    }
+}
+
+// The table's cell.
+fn follow(state: u32, code: u32, held: bool) -> u32
+    ensures { λ r. ⌜ r ≡ cell state code held ⌝ }
+{
+    if held {
+        met(state, code)
+    } else {
+        unmet(state, code)
     }
 }
 
@@ -119,8 +126,8 @@ fn in_wait_for_ra(code: u32) -> u32
         codes::RA_PROVER_OK..=codes::RA_PROVER_MSG => {
             report(code, states::WAIT_FOR_RA_VERIFIER, states::WAIT_FOR_RA)
         }
-        codes::SC_DAT_EXPIRED | codes::SC_RE_RA => states::WAIT_FOR_RA,
-        codes::SC_RA_PROVER | codes::SC_RA_VERIFIER | codes::SC_ACK => states::WAIT_FOR_RA,
+        codes::SC_DAT_EXPIRED..=codes::SC_RE_RA => states::WAIT_FOR_RA,
+        codes::SC_ACK => states::WAIT_FOR_RA,
         codes::DAT_TIMEOUT => states::WAIT_FOR_DAT_AND_RA,
         codes::UPPER_CLOSE | codes::SC_ERROR | codes::SC_CLOSE | codes::HANDSHAKE_TIMEOUT => {
             states::CLOSED_LOCKED

@@ -1,0 +1,63 @@
+-- When a call writes the cache, and that there is room for the block.
+-- Assumes nothing.
+use mathlib.Core.Path.{_≡_, refl, sym, subst, ap, _∙_}
+use mathlib.Core.Bool.{Bool, true, false, _&&_, cond}
+use mathlib.Core.List.{List, [], _∷_}
+use Prim.Native.Nat.{ℕ, suc, _≤_}
+use native.Mathlib.Omega.{arith}
+use lib.Dec.{T, eqb, ltb}
+use borrow.Author.Tests.{eqb-true, ltb-false, eq-eqb, ne-eqb}
+use denote.Enum.Declared.{tagOf}
+use types.Run.{OneOf, miss}
+use Rattle.connection.specs.Block.{stored}
+use Rattle.connection.specs.Call.{Call, carriesPayload, carriedBy}
+use Rattle.connection.specs.Limits.{Limits}
+use Rattle.connection.specs.Refusal.{refusal, faults, nextState}
+use Rattle.connection.specs.Step.{unchanged, handledTo, decided, cacheAfter}
+use Rattle.connection.specs.declared.Answer.{Answer}
+use Rattle.connection.specs.declared.Answer.the-variants.{Handled, Ignored, Refused}
+use Rattle.connection.specs.declared.Connection.{Connection}
+use Rattle.connection.specs.declared.Event.{Event}
+use Rattle.connection.specs.declared.Outcome.{Outcome}
+use Rattle.connection.specs.declared.reading.Carried.{Carried}
+use Rattle.connection.specs.declared.reading.Suites.{Suites}
+use Rattle.connection.proofs.Answer.{the-type}
+use Rattle.connection.proofs.Decided.{NoneOf, none-of}
+
+never-refused : (n : ℕ) → Refused n ≡ Handled → ⊥
+never-refused n e = let z : _≡_ {A = ℕ} 0 1 = cc in omega arith
+
+-- A handled call is not refused.
+not-refused : (b : Bool) (o : Outcome) (n : ℕ) (connection : Connection) → cond b o (unchanged (Refused n) connection) .answer ≡ Handled → b ≡ true
+not-refused true o n connection e = refl
+not-refused false o n connection e = absurd (never-refused n e)
+
+no-fault : (limits : Limits) (connection : Connection) (code : ℕ) (carried : Carried) → decided limits connection code carried .answer ≡ Handled → NoneOf (faults limits connection code carried)
+unfolding decided refusal
+no-fault limits connection code carried e =
+    none-of 0 (faults limits connection code carried)
+    (eqb-true (refusal limits connection code carried) 0
+    (not-refused (eqb (refusal limits connection code carried) 0) (cond (eqb (nextState connection code carried) 11) (unchanged Ignored connection) (handledTo (nextState connection code carried) connection code carried)) (refusal limits connection code carried) connection e))
+
+-- The payload of a handled event 2 fits in the cache.
+pub room-for : (limits : Limits) (connection : Connection) (event : Event) (payloadLength cacheLength : ℕ) (suites : Suites)
+    → decided limits connection (event .code) (carriedBy limits event payloadLength cacheLength suites) .answer ≡ Handled → event .code ≡ 2 → payloadLength ≤ cacheLength
+unfolding carriedBy
+room-for limits connection event payloadLength cacheLength suites e two =
+    let f = no-fault limits connection (event .code) (carriedBy limits event payloadLength cacheLength suites) e in
+    let p = ltb-false (limits .payload) payloadLength (subst (λ (k : ℕ). (carriesPayload k && ltb (limits .payload) payloadLength) ≡ false) two (f .1 .1 .1 .0)) in
+    let q = ltb-false cacheLength (limits .payload) (f .1 .1 .1 .1 .0) in
+    omega arith
+
+-- The cache after a call that is not handled, a handled event 2, and another handled event.
+module _ (call : Call) (cache : List ℕ) where
+  pub kept : (x : Answer) → OneOf (1 ∷ 2 ∷ []) (tagOf the-type x) → cache ≡ cacheAfter x call cache
+  kept Handled o = absurd (miss (1 ∷ 2 ∷ []) 0 tt o)
+  kept Ignored o = refl
+  kept (Refused n) o = refl
+
+  pub written : call .event .code ≡ 2 → stored (call .payload) cache ≡ cacheAfter Handled call cache
+  written e = rw (eq-eqb (call .event .code) 2 e)
+
+  pub unwritten : (call .event .code ≡ 2 → ⊥) → cache ≡ cacheAfter Handled call cache
+  unwritten e = rw (ne-eqb (call .event .code) 2 e)

@@ -1,0 +1,77 @@
+-- What is decided of a call, by its lower faults, the next state and the number.
+-- Assumes nothing.
+use mathlib.Core.Path.{_≡_, refl, sym, ap, _∙_}
+use mathlib.Core.Bool.{Bool, true, false, not, _&&_, cond}
+use mathlib.Core.List.{List, [], _∷_, _++_}
+use Prim.Native.Nat.{ℕ, suc}
+use native.Mathlib.Omega.{arith}
+use lib.Dec.{eqb}
+use borrow.Author.Tests.{ne-eqb}
+use Rattle.connection.specs.Limits.{Limits}
+use Rattle.connection.specs.Refusal.{argumentFaults, firstFault, nextState, refusal}
+use Rattle.connection.specs.Step.{unchanged, handledTo, decided}
+use Rattle.connection.specs.WellFormed.{wellFormed}
+use Rattle.connection.specs.declared.Answer.the-variants.{Ignored, Refused}
+use Rattle.connection.specs.declared.Connection.{Connection}
+use Rattle.connection.specs.declared.Outcome.{Outcome}
+use Rattle.connection.specs.declared.reading.Carried.{Carried}
+
+-- The number after those of a list of faults.
+abbrev after : ℕ → List Bool → ℕ
+after n [] = n
+after n (x ∷ xs) = after (suc n) xs
+
+-- The first of more faults.
+first-of : (n : ℕ) (xs ys : List Bool) → firstFault (suc n) (xs ++ ys) ≡ cond (eqb (firstFault (suc n) xs) 0) (firstFault (after (suc n) xs) ys) (firstFault (suc n) xs)
+first-of n [] ys = refl
+first-of n (true ∷ xs) ys = rw (ne-eqb (suc n) 0 (λ e. absurd (omega arith)))
+first-of n (false ∷ xs) ys = first-of (suc n) xs ys
+
+-- No fault is present.
+abbrev pub NoneOf : List Bool → Type 0
+NoneOf [] = Unit {0}
+NoneOf (x ∷ xs) = (x ≡ false) × NoneOf xs
+
+pub none-of : (n : ℕ) (xs : List Bool) → firstFault (suc n) xs ≡ 0 → NoneOf xs
+none-of n [] e = tt
+none-of n (true ∷ xs) e = absurd (omega arith)
+none-of n (false ∷ xs) e = (refl, none-of (suc n) xs e)
+
+module _ (limits : Limits) (connection : Connection) (code : ℕ) (carried : Carried) where
+  -- Faults 1 to 7.
+  abbrev pub lowerFaults : List Bool
+  lowerFaults = argumentFaults code carried ++ (not (wellFormed limits connection) ∷ [])
+
+  -- The outcome, of the lowest of them, the next state and whether the number is the largest.
+  abbrev judged : (lower to : ℕ) (full : Bool) → Outcome
+  judged lower to full =
+      let number = cond (eqb lower 0) (cond (not (eqb to 11) && full) 8 0) lower in
+      cond (eqb number 0) (cond (eqb to 11) (unchanged Ignored connection) (handledTo to connection code carried)) (unchanged (Refused number) connection)
+
+  decided-by : decided limits connection code carried ≡ judged (firstFault 1 lowerFaults) (nextState connection code carried) (eqb (connection .handled) (limits .handled))
+  unfolding decided refusal
+  decided-by = rw (first-of 0 lowerFaults ((not (eqb (nextState connection code carried) 11) && eqb (connection .handled) (limits .handled)) ∷ []))
+
+  module _ (lower to : ℕ) (full : Bool) (is-lower : lower ≡ firstFault 1 lowerFaults) (is-next : to ≡ nextState connection code carried) (is-full : eqb (connection .handled) (limits .handled) ≡ full) where
+    as-judged : judged lower to full ≡ decided limits connection code carried
+    as-judged =
+        ap (λ (l : ℕ). judged l to full) is-lower ∙
+        ap (λ (t : ℕ). judged (firstFault 1 lowerFaults) t full) is-next ∙
+        ap (λ (f : Bool). judged (firstFault 1 lowerFaults) (nextState connection code carried) f) (sym is-full) ∙
+        sym decided-by
+
+    pub refused : eqb lower 0 ≡ false → unchanged (Refused lower) connection ≡ decided limits connection code carried
+    refused e = rw (e, e) at as-judged
+
+    pub ignored : lower ≡ 0 → to ≡ 11 → unchanged Ignored connection ≡ decided limits connection code carried
+    ignored e i = rw (e, i) at as-judged
+
+    pub refused-full : lower ≡ 0 → eqb to 11 ≡ false → full ≡ true → unchanged (Refused 8) connection ≡ decided limits connection code carried
+    refused-full e i f = rw (e, i, f) at as-judged
+
+    pub handled : lower ≡ 0 → eqb to 11 ≡ false → full ≡ false → handledTo to connection code carried ≡ decided limits connection code carried
+    handled e i f = rw (e, i, f) at as-judged
+
+  -- What the lower faults say where none is present.
+  pub no-faults : 0 ≡ firstFault 1 lowerFaults → NoneOf lowerFaults
+  no-faults e = none-of 0 lowerFaults (sym e)

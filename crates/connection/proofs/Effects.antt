@@ -1,0 +1,204 @@
+-- The code by event does what the rules over sets of states say.
+-- Assumes nothing.
+use mathlib.Core.Path.{_≡_, refl, sym, subst, ap, _∙_}
+use mathlib.Core.Bool.{Bool, true, false, not, _&&_, _||_, cond}
+use mathlib.Core.List.{List, [], _∷_}
+use Prim.Native.Nat.{ℕ, _+_, _<_, _≤_}
+use native.Mathlib.Omega.{arith}
+use lib.Dec.{T, eqb}
+use types.Run.{OneOf}
+use Rattle.connection.specs.Actions.{lockingSheet, movingSheet, ordersOf, actionsOf}
+use Rattle.connection.specs.Advance.{raised, locked, moved, tagsAfter, advance}
+use Rattle.connection.specs.ByEvent.{Effect, keep, start, cancel, expire, clear, effectOf, tagBy, orderBy, byEvent, byLocking, moving}
+use Rattle.connection.specs.Condition.{holds}
+use Rattle.connection.specs.Limits.{Limits}
+use Rattle.connection.specs.Refusal.{nextState}
+use Rattle.connection.specs.Sets.{isIn}
+use Rattle.connection.specs.Step.{handledTo}
+use Rattle.connection.specs.Table.{cell, settled}
+use Rattle.connection.specs.Timers.{Timer, H, HP, HV, DAT, RA, ACK, tagOf, runsIn, starts, ends, reports, tagAfter, timerOrder}
+use Rattle.connection.specs.WellFormed.{wellFormed}
+use Rattle.connection.specs.declared.Answer.the-variants.{Handled}
+use Rattle.connection.specs.declared.Connection.{Connection}
+use Rattle.connection.specs.declared.reading.Carried.{Carried}
+use Rattle.connection.proofs.Arms.{one-of}
+use Rattle.connection.proofs.Finite.{and-left, and-right, below, below-at, either, either-at}
+use Rattle.connection.proofs.WellFormed.{offIn, Parts, parts}
+
+-- An effect that goes by a test.
+pub tag-if : (b : Bool) (e f : Effect) (number tag : ℕ) → tagBy (cond b e f) number tag ≡ cond b (tagBy e number tag) (tagBy f number tag)
+tag-if true e f number tag = refl
+tag-if false e f number tag = refl
+
+pub order-if : (b : Bool) (e f : Effect) (tag : ℕ) → orderBy (cond b e f) tag ≡ cond b (orderBy e tag) (orderBy f tag)
+order-if true e f tag = refl
+order-if false e f tag = refl
+
+-- Whether an effect fits the rules of a timer that starts, ends and reports, or not, and is off or on in the state before.
+abbrev fits : Effect → (starts ends reports off on : Bool) → Bool
+fits keep s e r off on = not s && (not e || off)
+fits start s e r off on = s
+fits cancel s e r off on = not s && (e && (not r && on))
+fits expire s e r off on = not s && (e && r)
+fits clear s e r off on = not s && ((e || off) && (not r || off))
+
+tag-fits : (x : Effect) (s e r off on : Bool) (number tag : ℕ) → (T off → tag ≡ 0) → T (fits x s e r off on) → tagBy x number tag ≡ tagAfter s e number tag
+tag-fits keep true e r off on n t z f = absurd f
+tag-fits keep false true r true on n t z f = z tt
+tag-fits keep false true r false on n t z f = absurd f
+tag-fits keep false false r off on n t z f = refl
+tag-fits start true e r off on n t z f = refl
+tag-fits start false e r off on n t z f = absurd f
+tag-fits cancel true e r off on n t z f = absurd f
+tag-fits cancel false true r off on n t z f = refl
+tag-fits cancel false false r off on n t z f = absurd f
+tag-fits expire true e r off on n t z f = absurd f
+tag-fits expire false true r off on n t z f = refl
+tag-fits expire false false r off on n t z f = absurd f
+tag-fits clear true e r off on n t z f = absurd f
+tag-fits clear false true r off on n t z f = refl
+tag-fits clear false false r true on n t z f = sym (z tt)
+tag-fits clear false false r false on n t z f = absurd f
+
+-- A timer with tag 0 gets no cancel.
+no-cancel : (r : Bool) → _≡_ {A = ℕ} 0 (cond (not r && false) 2 0)
+no-cancel true = refl
+no-cancel false = refl
+
+other : (b : Bool) → _≡_ {A = ℕ} (cond b 0 2) (cond (not b) 2 0)
+other true = refl
+other false = refl
+
+order-fits : (x : Effect) (s e r off on : Bool) (tag : ℕ) → (T off → tag ≡ 0) → (T on → eqb tag 0 ≡ false) → T (fits x s e r off on) → orderBy x tag ≡ timerOrder s e r tag
+order-fits keep true e r off on t z o f = absurd f
+order-fits keep false true r true on t z o f = rw (z tt) (no-cancel r)
+order-fits keep false true r false on t z o f = absurd f
+order-fits keep false false r off on t z o f = refl
+order-fits start true e r off on t z o f = refl
+order-fits start false e r off on t z o f = absurd f
+order-fits cancel true e r off on t z o f = absurd f
+order-fits cancel false true true off on t z o f = absurd f
+order-fits cancel false true false off true t z o f = rw (o tt)
+order-fits cancel false true false off false t z o f = absurd f
+order-fits cancel false false r off on t z o f = absurd f
+order-fits expire true e r off on t z o f = absurd f
+order-fits expire false true true off on t z o f = refl
+order-fits expire false true false off on t z o f = absurd f
+order-fits expire false false r off on t z o f = absurd f
+order-fits clear true e r off on t z o f = absurd f
+order-fits clear false true true true on t z o f = rw (z tt)
+order-fits clear false true true false on t z o f = absurd f
+order-fits clear false true false off on t z o f = other (eqb t 0)
+order-fits clear false false r true on t z o f = rw (z tt)
+order-fits clear false false r false on t z o f = absurd f
+
+-- A test of every timer.
+abbrev timers : (Timer → Bool) → Bool
+timers p = p H && (p HP && (p HV && (p DAT && (p RA && p ACK))))
+
+timers-at : (p : Timer → Bool) → T (timers p) → (timer : Timer) → T (p timer)
+timers-at p t H = search (and-left, and-right) depth 16
+timers-at p t HP = search (and-left, and-right) depth 16
+timers-at p t HV = search (and-left, and-right) depth 16
+timers-at p t DAT = search (and-left, and-right) depth 16
+timers-at p t RA = search (and-left, and-right) depth 16
+timers-at p t ACK = search (and-left, and-right) depth 16
+
+-- In a state s with a flag, event k with its condition held or not: ignored, locking, or handled with effects that fit.
+abbrev cellFits : (s k flag : ℕ) (b : Bool) → Bool
+cellFits s k flag b =
+    let to = settled flag (cell s k b) in
+    cond (eqb to 11 || eqb to 9) true
+    (isIn moving k && (not (eqb k 20)
+    && timers (λ x. fits (effectOf k s to x) (starts x k s to) (ends x k s to) (reports x k 0) (offIn x s) (runsIn x s))))
+
+-- All cells fit.
+all-fit : T (below 10 (λ s. below 24 (λ k. below 2 (λ flag. either (cellFits s k flag)))))
+unfolding cell
+all-fit = tt
+
+-- What fits in a cell that is neither ignored nor locks.
+record Fit (s k to : ℕ) : Type 0 where
+  moves : OneOf moving k
+  no-timeout : eqb k 20 ≡ false
+  effect : (x : Timer) → T (fits (effectOf k s to x) (starts x k s to) (ends x k s to) (reports x k 0) (offIn x s) (runsIn x s))
+
+is-false : (b : Bool) → T (not b) → b ≡ false
+is-false true t = absurd t
+is-false false t = refl
+
+fit-by : (s k to : ℕ) (skip : Bool) → skip ≡ false
+    → T (cond skip true (isIn moving k && (not (eqb k 20) && timers (λ x. fits (effectOf k s to x) (starts x k s to) (ends x k s to) (reports x k 0) (offIn x s) (runsIn x s)))))
+    → Fit s k to
+fit-by s k to true e t = absurd (subst (λ (b : Bool). T b) e tt)
+fit-by s k to false e t = record {
+  moves = one-of moving k (and-left (isIn moving k) _ t);
+  no-timeout = is-false (eqb k 20) (and-left (not (eqb k 20)) _ (and-right (isIn moving k) _ t));
+  effect = timers-at (λ x. fits (effectOf k s to x) (starts x k s to) (ends x k s to) (reports x k 0) (offIn x s) (runsIn x s)) (and-right (not (eqb k 20)) _ (and-right (isIn moving k) _ t));
+}
+
+fit : (s k flag to : ℕ) (b : Bool) → s ≤ 9 → k < 24 → flag ≤ 1 → settled flag (cell s k b) ≡ to → (eqb to 11 || eqb to 9) ≡ false → Fit s k to
+fit s k flag to b hs hk hf e n =
+    fit-by s k to (eqb to 11 || eqb to 9) n
+    (subst (λ (t : ℕ). T (cond (eqb t 11 || eqb t 9) true (isIn moving k && (not (eqb k 20) && timers (λ x. fits (effectOf k s t x) (starts x k s t) (ends x k s t) (reports x k 0) (offIn x s) (runsIn x s)))))) e
+    (either-at (cellFits s k flag)
+    (below-at 2 (λ f. either (cellFits s k f))
+    (below-at 24 (λ j. below 2 (λ f. either (cellFits s j f)))
+    (below-at 10 (λ i. below 24 (λ j. below 2 (λ f. either (cellFits i j f)))) all-fit s (omega arith)) k hk) flag (omega arith)) b))
+
+-- The record and the sheet of a move, by the tags and the orders.
+moved-by : (f g : Timer → ℕ) → ((x : Timer) → f x ≡ g x) → (number : ℕ) (connection : Connection) (code : ℕ) (carried : Carried) (to : ℕ) → moved f number connection code carried to ≡ moved g number connection code carried to
+moved-by f g p number connection code carried to = rw (p H, p HP, p HV, p DAT, p RA, p ACK)
+
+sheet-by : (f g : Timer → ℕ) → ((x : Timer) → f x ≡ g x) → (connection : Connection) (code : ℕ) (carried : Carried) → movingSheet f connection code carried ≡ movingSheet g connection code carried
+sheet-by f g p connection code carried = rw (p H, p HP, p HV, p DAT, p RA, p ACK)
+
+otherwise : {A : Type 0} (b : Bool) (x y : A) → b ≡ false → cond b x y ≡ y
+otherwise true x y e = absurd (subst (λ (c : Bool). T c) e tt)
+otherwise false x y e = refl
+
+-- An event other than 20 reports its timer whatever name it carries.
+reports-by : (x : Timer) (k name : ℕ) → eqb k 20 ≡ false → reports x k 0 ≡ reports x k name
+reports-by H k name e = rw e
+reports-by HP k name e = rw e
+reports-by HV k name e = rw e
+reports-by DAT k name e = refl
+reports-by RA k name e = refl
+reports-by ACK k name e = refl
+
+module _ (limits : Limits) (connection : Connection) (code : ℕ) (carried : Carried) (to : ℕ)
+    (well : T (wellFormed limits connection)) (known : code < 24)
+    (next : nextState connection code carried ≡ to) (heard : eqb to 11 ≡ false) (stays : eqb to 9 ≡ false) where
+  fitting : Fit (connection .state) code to
+  unfolding nextState
+  fitting =
+      let p = parts limits connection well in
+      fit (connection .state) code (connection .«awaiting_ack») to (holds connection code carried) (p .state) known (p .flag) next (rw heard stays)
+
+  pub is-moving : OneOf moving code
+  unfolding fitting
+  is-moving = fitting .moves
+
+  tag-of : (x : Timer) → tagBy (effectOf code (connection .state) to x) (raised connection) (tagOf connection x) ≡ tagsAfter connection code to x
+  tag-of x = tag-fits (effectOf code (connection .state) to x) (starts x code (connection .state) to) (ends x code (connection .state) to) (reports x code 0) (offIn x (connection .state)) (runsIn x (connection .state)) (raised connection) (tagOf connection x) (parts limits connection well .off x) (fitting .effect x)
+
+  order-of : (x : Timer) → orderBy (effectOf code (connection .state) to x) (tagOf connection x) ≡ ordersOf connection code carried to x
+  order-of x =
+      order-fits (effectOf code (connection .state) to x) (starts x code (connection .state) to) (ends x code (connection .state) to) (reports x code 0) (offIn x (connection .state)) (runsIn x (connection .state)) (tagOf connection x) (parts limits connection well .off x) (parts limits connection well .on x) (fitting .effect x)
+      ∙ ap (λ (r : Bool). timerOrder (starts x code (connection .state) to) (ends x code (connection .state) to) r (tagOf connection x)) (reports-by x code (carried .timer) (fitting .no-timeout))
+
+  -- What the code does for an event that moves on is what the definitions say.
+  pub by-event : byEvent (raised connection) connection code carried to ≡ handledTo to connection code carried
+  unfolding advance actionsOf
+  by-event =
+      let effect = effectOf code (connection .state) to in
+      let p = moved-by (λ x. tagBy (effect x) (raised connection) (tagOf connection x)) (tagsAfter connection code to) tag-of (raised connection) connection code carried to in
+      let q = sheet-by (λ x. orderBy (effect x) (tagOf connection x)) (ordersOf connection code carried to) order-of connection code carried in
+      let p′ = p ∙ sym (otherwise (eqb to 9) (locked (raised connection)) _ stays) in
+      let q′ = q ∙ sym (otherwise (eqb to 9) (lockingSheet (ordersOf connection code carried to) connection code) _ stays) in
+      λ i. record { answer = Handled; connection = p′ i; actions = q′ i }
+
+-- What it does for an event that locks, too.
+pub by-locking : (connection : Connection) (code : ℕ) (carried : Carried) → byLocking (raised connection) connection code carried ≡ handledTo 9 connection code carried
+unfolding advance actionsOf
+by-locking connection code carried = refl

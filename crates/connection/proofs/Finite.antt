@@ -1,0 +1,37 @@
+-- A test over every number below a bound, which antt computes, and what it says of one.
+-- Assumes nothing.
+use mathlib.Core.Path.{_≡_, sym, subst}
+use mathlib.Core.Bool.{Bool, true, false, _&&_}
+use Prim.Native.Nat.{ℕ, zero, suc, _<_}
+use native.Mathlib.Decide.{ℕ-discrete}
+use native.Mathlib.Omega.{arith}
+use lib.Dec.{T}
+
+pub and-left : (a b : Bool) → T (a && b) → T a
+and-left true b t = tt
+and-left false b t = t
+
+pub and-right : (a b : Bool) → T (a && b) → T b
+and-right true b t = t
+and-right false b t = absurd t
+
+abbrev pub below : ℕ → (ℕ → Bool) → Bool
+below zero p = true
+below (suc n) p = p n && below n p
+
+here-or-below : (n : ℕ) (p : ℕ → Bool) (k : ℕ) → T (p n) → Dec (k ≡ n) → ((k ≡ n → ⊥) → T (p k)) → T (p k)
+here-or-below n p k t (yes e) f = subst (λ (m : ℕ). T (p m)) (sym e) t
+here-or-below n p k t (no e) f = f e
+
+pub below-at : (n : ℕ) (p : ℕ → Bool) → T (below n p) → (k : ℕ) → k < n → T (p k)
+below-at zero p t k h = absurd (omega arith)
+below-at (suc n) p t k h =
+    here-or-below n p k (and-left (p n) (below n p) t) (ℕ-discrete k n)
+    (λ e. below-at n p (and-right (p n) (below n p) t) k (omega arith))
+
+abbrev pub either : (Bool → Bool) → Bool
+either p = p true && p false
+
+pub either-at : (p : Bool → Bool) → T (either p) → (b : Bool) → T (p b)
+either-at p t true = and-left (p true) (p false) t
+either-at p t false = and-right (p true) (p false) t

@@ -1,0 +1,63 @@
+use mathlib.Core.Logic.{inl, inr}
+use mathlib.Core.List.{List, [], _∷_}
+use Prim.Native.Nat.{ℕ}
+use borrow.Author.Needs.{needs}
+use Rattle.connection.specs.ByEvent.{moving}
+use Rattle.connection.proofs.Arms.{remains}
+use Rattle.connection.proofs.judging.move_on.Statement.{statement}
+use Rattle.connection.proofs.judging.move_on.Tie as tie
+use Rattle.connection.proofs.judging.move_on.Reads as reads
+use Rattle.connection.proofs.judging.move_on.Lts as lts
+use Rattle.connection.proofs.moves.expire_token.Reads as expire-token-reads
+use Rattle.connection.proofs.moves.open_connection.Reads as open-connection-reads
+use Rattle.connection.proofs.moves.pass_on.Reads as pass-on-reads
+use Rattle.connection.proofs.moves.prove_again.Reads as prove-again-reads
+use Rattle.connection.proofs.moves.prover_ok.Reads as prover-ok-reads
+use Rattle.connection.proofs.moves.receive_ack.Reads as receive-ack-reads
+use Rattle.connection.proofs.moves.receive_data.Reads as receive-data-reads
+use Rattle.connection.proofs.moves.renew_token.Reads as renew-token-reads
+use Rattle.connection.proofs.moves.repeat_data.Reads as repeat-data-reads
+use Rattle.connection.proofs.moves.send_data.Reads as send-data-reads
+use Rattle.connection.proofs.moves.send_report.Reads as send-report-reads
+use Rattle.connection.proofs.moves.start_handshake.Reads as start-handshake-reads
+use Rattle.connection.proofs.moves.verifier_ok.Reads as verifier-ok-reads
+use Rattle.connection.proofs.moves.verify_again.Reads as verify-again-reads
+
+-- The arms of keys, the last one first.
+abbrev arms : List (List ℕ)
+arms = (21 ∷ []) ∷ (19 ∷ []) ∷ (18 ∷ []) ∷ (16 ∷ []) ∷ (15 ∷ []) ∷ (14 ∷ 17 ∷ []) ∷ (13 ∷ []) ∷ (11 ∷ []) ∷ (6 ∷ 9 ∷ []) ∷ (7 ∷ []) ∷ (4 ∷ []) ∷ (3 ∷ 22 ∷ []) ∷ (2 ∷ []) ∷ (0 ∷ []) ∷ []
+
+pub move-on-spec : {M : Type 1} → statement M
+move-on-spec =
+    tie.close
+    (tie.spec
+    (λ c κs. search needs)
+    (λ c κs. search needs)
+    (λ c κs. search needs)
+    (λ c κs. search needs)
+    (λ c κs. search needs)
+    (λ c κs. search needs)
+    (λ c κs. search needs)
+    (λ c κs. search needs)
+    (λ c κs. search needs)
+    (λ c κs. inl (c .match .keys10))
+    (λ c κs. inr (c .match .keys11))
+    (λ c κs. search needs)
+    (λ c κs. search needs)
+    (λ c κs. search needs)
+    (λ c κs. search needs)
+    (λ c. rw (c .before .match .keys1) (c .start-handshake .ensures))
+    (λ c. rw (c .before .match .keys2) (c .send-data .ensures))
+    (λ c. c .verify-again .ensures)
+    (λ c. rw (c .before .match .keys4) (c .verifier-ok .ensures))
+    (λ c. rw (c .before .match .keys5) (c .prover-ok .ensures))
+    (λ c. c .send-report .ensures)
+    (λ c. rw (c .before .match .keys7) (c .open-connection .ensures))
+    (λ c. rw (c .before .match .keys8) (c .renew-token .ensures))
+    (λ c. c .prove-again .ensures)
+    (λ c. c .pass-on .ensures)
+    (λ c. c .pass-on2 .ensures)
+    (λ c. rw (c .before .match .keys12) (c .receive-data .ensures))
+    (λ c. rw (c .before .match .keys13) (c .receive-ack .ensures))
+    (λ c. rw (c .before .match .keys14) (c .expire-token .ensures))
+    (λ c. rw (remains arms moving _ (c .before .match .rest) (c .before .before .pre)) (c .repeat-data .ensures)))

@@ -1,0 +1,24 @@
+use lib.Dec.{leb·zero}
+use lib.ListN.{length}
+use denote.Ref.{now}
+use borrow.Author.Needs.{needs}
+use borrow.Author.Tests.{ne-eqb}
+use Rattle.connection.specs.Block.{partOf}
+use Rattle.connection.proofs.part.Statement.{statement}
+use Rattle.connection.proofs.part.Tie as tie
+use Rattle.connection.proofs.part.Reads as reads
+use Rattle.connection.proofs.part.Lts as lts
+use Rattle.connection.proofs.block.front.Reads as front-reads
+
+pub part-spec : {M : Type 1} → statement M
+unfolding partOf
+part-spec =
+    tie.close
+    (tie.spec
+    (λ c. search needs)
+    (λ c κs. search needs)
+    (λ c κs. search needs)
+    (λ c κs. search needs)
+    (λ c. rw (c .before .match .keys1) (c .front .ensures))
+    (λ c. rw (c .before .match .keys2) (c .front2 .ensures))
+    (λ c. rw (ne-eqb _ _ (c .before .match .rest .0 .1), ne-eqb _ _ (c .before .match .rest .1), c .front3 .ensures, leb·zero (length (now (c .before .before .before .before .before .args .payload))))))

@@ -1,0 +1,17 @@
+use mathlib.Core.Path.{refl}
+use mathlib.Core.List.{List, [], _∷_}
+use borrow.Author.Needs.{needs}
+use Rattle.connection.specs.Kind.{bitIn}
+use Rattle.connection.proofs.Opening.{alike}
+use Rattle.connection.proofs.reading.bit_in.Statement.{statement}
+use Rattle.connection.proofs.reading.bit_in.Tie as tie
+use Rattle.connection.proofs.reading.bit_in.Reads as reads
+use Rattle.connection.proofs.reading.bit_in.Lts as lts
+
+pub bit-in-spec : {M : Type 1} → statement M
+bit-in-spec =
+    tie.close
+    (tie.spec
+    (λ c. search needs)
+    (λ c. alike (λ kind. 0) bitIn (0 ∷ 1 ∷ 2 ∷ 4 ∷ []) (refl, (λ tag. refl, (λ tag timer. refl, λ verdict expiry now. refl))) (c .before .args .kind) (c .match .keys2))
+    (λ c. search needs))

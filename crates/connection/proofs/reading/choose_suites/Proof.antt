@@ -1,0 +1,19 @@
+use borrow.Author.Needs.{needs}
+use borrow.Author.Tests.{eq-eqb, ne-eqb}
+use Rattle.connection.proofs.reading.choose_suites.Statement.{statement}
+use Rattle.connection.proofs.reading.choose_suites.Tie as tie
+use Rattle.connection.proofs.reading.choose_suites.Reads as reads
+use Rattle.connection.proofs.reading.choose_suites.Lts as lts
+use Rattle.connection.proofs.reading.suites_in.Reads as suites-in-reads
+use Rattle.suites.proofs.any_too_long.Reads as any-too-long-reads
+use Rattle.suites.proofs.choose.Reads as choose-reads
+
+pub choose-suites-spec : {M : Type 1} → statement M
+choose-suites-spec =
+    tie.close
+    (tie.spec
+    (λ c. rw (ne-eqb _ _ (c .if1 .taken)))
+    (λ c κs. search needs)
+    (λ c κs. search needs)
+    (λ c κs. search needs)
+    (λ c. rw (eq-eqb _ _ (c .before .before .before .if1 .left), ← c .before .choose .ensures, ← c .before .before .any-too-long .ensures) (c .suites-in .ensures)))

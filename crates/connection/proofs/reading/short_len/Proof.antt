@@ -1,0 +1,14 @@
+use borrow.Author.Needs.{needs}
+use borrow.Author.Tests.{lt-ltb, le-ltb}
+use Rattle.connection.proofs.reading.short_len.Statement.{statement}
+use Rattle.connection.proofs.reading.short_len.Tie as tie
+use Rattle.connection.proofs.reading.short_len.Reads as reads
+use Rattle.connection.proofs.reading.short_len.Lts as lts
+
+pub short-len-spec : {M : Type 1} → statement M
+short-len-spec =
+    tie.close
+    (tie.spec
+    (λ c. search needs)
+    (λ c. rw (lt-ltb _ _ (c .if1 .taken)))
+    (λ c. rw (le-ltb _ _ (c .if1 .left))))

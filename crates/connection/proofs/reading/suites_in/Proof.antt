@@ -1,0 +1,20 @@
+use borrow.Author.Needs.{needs}
+use Rattle.connection.proofs.reading.suites_in.Statement.{statement}
+use Rattle.connection.proofs.reading.suites_in.Tie as tie
+use Rattle.connection.proofs.reading.suites_in.Reads as reads
+use Rattle.connection.proofs.reading.suites_in.Lts as lts
+use Rattle.connection.proofs.reading.is_found.Reads as is-found-reads
+use Rattle.connection.proofs.reading.number_in.Reads as number-in-reads
+
+pub suites-in-spec : {M : Type 1} → statement M
+suites-in-spec =
+    tie.close
+    (tie.spec
+    (λ c. search needs)
+    (λ c. search needs)
+    (λ c. rw (c .enum-told .given .1))
+    (λ c κs. search needs)
+    (λ c κs. search needs)
+    (λ c κs. search needs)
+    (λ c κs. search needs)
+    (λ c. rw (c .number-in2 .ensures, c .before .number-in .ensures, c .before .before .is-found2 .ensures, c .before .before .before .is-found .ensures, c .before .before .before .before .before .choice .given .1)))

@@ -1,0 +1,19 @@
+use mathlib.Core.Path.{refl, _∙_}
+use mathlib.Core.List.{List, [], _∷_}
+use borrow.Author.Needs.{needs}
+use Rattle.connection.specs.Kind.{tagIn, timeoutTagIn}
+use Rattle.connection.proofs.Opening.{alike}
+use Rattle.connection.proofs.reading.tag_in.Statement.{statement}
+use Rattle.connection.proofs.reading.tag_in.Tie as tie
+use Rattle.connection.proofs.reading.tag_in.Reads as reads
+use Rattle.connection.proofs.reading.tag_in.Lts as lts
+use Rattle.connection.proofs.reading.timeout_tag_in.Reads as timeout-tag-in-reads
+
+pub tag-in-spec : {M : Type 1} → statement M
+tag-in-spec =
+    tie.close
+    (tie.spec
+    (λ c. search needs)
+    (λ c κs. search needs)
+    (λ c. c .timeout-tag-in .ensures ∙ alike timeoutTagIn tagIn (0 ∷ 2 ∷ 3 ∷ 4 ∷ []) (refl, (λ tag timer. refl, (λ bit. refl, λ verdict expiry now. refl))) (c .before .before .args .kind) (c .before .match .keys2))
+    (λ c. search needs))

@@ -1,0 +1,17 @@
+use mathlib.Core.Path.{refl}
+use mathlib.Core.List.{List, [], _∷_}
+use borrow.Author.Needs.{needs}
+use Rattle.connection.specs.Kind.{timeoutTagIn}
+use Rattle.connection.proofs.Opening.{alike}
+use Rattle.connection.proofs.reading.timeout_tag_in.Statement.{statement}
+use Rattle.connection.proofs.reading.timeout_tag_in.Tie as tie
+use Rattle.connection.proofs.reading.timeout_tag_in.Reads as reads
+use Rattle.connection.proofs.reading.timeout_tag_in.Lts as lts
+
+pub timeout-tag-in-spec : {M : Type 1} → statement M
+timeout-tag-in-spec =
+    tie.close
+    (tie.spec
+    (λ c. search needs)
+    (λ c. alike (λ kind. 0) timeoutTagIn (0 ∷ 1 ∷ 3 ∷ 4 ∷ []) (refl, (λ tag. refl, (λ bit. refl, λ verdict expiry now. refl))) (c .before .args .kind) (c .match .keys2))
+    (λ c. search needs))
