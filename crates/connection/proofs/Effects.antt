@@ -13,16 +13,16 @@ use Rattle.connection.specs.ByEvent.{Effect, keep, start, cancel, expire
 use Rattle.connection.specs.Condition.{holds}
 use Rattle.connection.specs.Limits.{Limits}
 use Rattle.connection.specs.Refusal.{nextState}
-use Rattle.connection.specs.Sets.{isIn}
+use Rattle.table.specs.Sets.{isIn}
 use Rattle.connection.specs.Step.{handledTo}
-use Rattle.connection.specs.Table.{cell, settled}
+use Rattle.table.specs.Table.{cell, settled}
 use Rattle.connection.specs.Timers.{Timer, H, HP, HV, DAT, RA, ACK, tagOf, runsIn, starts, ends, reports, tagAfter, timerOrder}
 use Rattle.connection.specs.WellFormed.{wellFormed}
 use Rattle.connection.specs.declared.Answer.the-variants.{Handled}
 use Rattle.connection.specs.declared.Connection.{Connection}
 use Rattle.connection.specs.declared.reading.Carried.{Carried}
-use Rattle.connection.proofs.Arms.{one-of}
-use Rattle.connection.proofs.Finite.{and-left, and-right, below, below-at, either, either-at}
+use Rattle.table.proofs.Arms.{one-of}
+use Rattle.table.proofs.Finite.{and-left, and-right, below, below-at, either, either-at}
 use Rattle.connection.proofs.WellFormed.{offIn, Parts, parts}
 
 -- An effect that goes by a test.

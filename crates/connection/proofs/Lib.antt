@@ -1,8 +1,5 @@
-mod Arms
 mod Cache
-mod Cells
 mod Decided
 mod Effects
-mod Finite
 mod Opening
 mod WellFormed

@@ -16,7 +16,7 @@ use Rattle.connection.specs.declared.Event.{Event}
 use Rattle.connection.specs.declared.reading.EventKind.{EventKind}
 use Rattle.connection.specs.declared.reading.EventKind.the-variants.{Plain, Tagged, HandshakeTimeout, Bit, Token}
 use Rattle.connection.proofs.reading.EventKind.{the-type}
-use Rattle.connection.proofs.Arms.{All, at-keys}
+use Rattle.table.proofs.Arms.{All, at-keys}
 
 -- The place of a kind among the variants, as a match tests it.
 abbrev variant : EventKind → ℕ

@@ -9,7 +9,7 @@ use Rattle.connection.specs.Limits.{Limits}
 use Rattle.connection.specs.Timers.{Timer, H, HP, HV, DAT, RA, ACK, tagOf, runsIn, raFree, isRa}
 use Rattle.connection.specs.WellFormed.{fieldsFit, tagsAtMost, fitsState, onJustIn, wellFormed}
 use Rattle.connection.specs.declared.Connection.{Connection}
-use Rattle.connection.proofs.Finite.{and-left, and-right, below-at}
+use Rattle.table.proofs.Finite.{and-left, and-right, below-at}
 
 -- Whether a timer's tag is off in a state, whatever the record.
 abbrev pub offIn : Timer → (state : ℕ) → Bool

@@ -4,7 +4,7 @@ use mathlib.Core.Bool.{Bool, true, false, not, _&&_, cond}
 use mathlib.Core.List.{List, [], _∷_}
 use lib.Dec.{eqb}
 use Rattle.connection.specs.Orders as order
-use Rattle.connection.specs.Sets.{isIn}
+use Rattle.table.specs.Sets.{isIn}
 use Rattle.connection.specs.Call.{carriesPayload}
 use Rattle.connection.specs.Timers.{Timer, H, HP, HV, DAT, RA, ACK, tagOf, starts, ends, reports, startsProver, startsVerifier, timerOrder}
 use Rattle.connection.specs.declared.Actions.{Actions}

@@ -6,7 +6,7 @@ use mathlib.Core.List.{List, [], _∷_}
 use lib.Dec.{eqb}
 use lib.ListN.{getD}
 use Rattle.connection.specs.Orders as order
-use Rattle.connection.specs.Sets.{isIn}
+use Rattle.table.specs.Sets.{isIn}
 use Rattle.connection.specs.Timers.{Timer, H, HP, HV, DAT, RA, ACK, tagOf}
 use Rattle.connection.specs.Advance.{locked, moved}
 use Rattle.connection.specs.Actions.{lockingSheet, movingSheet, ordersOf}
@@ -99,7 +99,3 @@ byLocking number connection code carried = record {
 -- The events that are handled without a lock in some state.
 abbrev pub moving : List ℕ
 moving = 0 ∷ 2 ∷ 3 ∷ 4 ∷ 6 ∷ 7 ∷ 9 ∷ 11 ∷ 13 ∷ 14 ∷ 15 ∷ 16 ∷ 17 ∷ 18 ∷ 19 ∷ 21 ∷ 22 ∷ 23 ∷ []
-
--- What follows a driver's report: OK leads on, FAILED locks, a message stays.
-abbrev pub reported : (code ok stay : ℕ) → ℕ
-reported code ok stay = cond (isIn (4 ∷ 7 ∷ []) code) ok (cond (isIn (5 ∷ 8 ∷ []) code) 9 stay)

@@ -7,7 +7,7 @@ use lib.ListN.{length}
 use Rattle.suites.specs.Answer.{Answer}
 use Rattle.suites.specs.Choice.{anyTooLong, choice}
 use Rattle.connection.specs.Limits.{Limits}
-use Rattle.connection.specs.Sets.{isIn}
+use Rattle.table.specs.Sets.{isIn}
 use Rattle.connection.specs.Kind.{kindOf, tagIn, timerIn, bitIn, goodIn, secondsIn}
 use Rattle.connection.specs.declared.Event.{Event}
 use Rattle.connection.specs.declared.reading.Suites.{Suites}

@@ -1,7 +1,5 @@
 pub mod Limits
-pub mod Sets
 pub mod Orders
-pub mod Table
 pub mod Kind
 pub mod Call
 pub mod Timers

@@ -5,7 +5,7 @@ use mathlib.Core.List.{List, [], _∷_, _++_}
 use lib.Dec.{eqb, ltb}
 use Rattle.connection.specs.Limits.{Limits}
 use Rattle.connection.specs.Condition.{holds}
-use Rattle.connection.specs.Table.{cell, settled}
+use Rattle.table.specs.Table.{cell, settled}
 use Rattle.connection.specs.WellFormed.{wellFormed}
 use Rattle.connection.specs.declared.Connection.{Connection}
 use Rattle.connection.specs.declared.reading.Carried.{Carried}

@@ -4,7 +4,7 @@ use mathlib.Core.Bool.{Bool, true, false, not, _&&_, _||_, cond}
 use mathlib.Core.List.{List, [], _∷_}
 use lib.Dec.{eqb}
 use Rattle.connection.specs.Orders.{none, start, cancel}
-use Rattle.connection.specs.Sets.{isIn}
+use Rattle.table.specs.Sets.{isIn}
 use Rattle.connection.specs.declared.Connection.{Connection}
 
 pub data Timer : Type 0 where

@@ -4,7 +4,7 @@ use mathlib.Core.Bool.{Bool, true, not, _&&_, _||_, cond}
 use mathlib.Core.List.{List, [], _∷_}
 use lib.Dec.{eqb, leb}
 use Rattle.connection.specs.Limits.{Limits}
-use Rattle.connection.specs.Sets.{isIn}
+use Rattle.table.specs.Sets.{isIn}
 use Rattle.connection.specs.Timers.{Timer, H, HP, HV, DAT, RA, ACK, tagOf, runsIn, raFree}
 use Rattle.connection.specs.declared.Connection.{Connection}
 

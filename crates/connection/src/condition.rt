@@ -3,19 +3,19 @@ ghost use mathlib.Core.Path.{_≡_};
 ghost use Rattle.connection.specs.Condition.{isLive, named, holds};
 ghost use Rattle.connection.specs.Timers.{tagOf};
 use crate::Connection;
-use crate::codes::ACK_TIMEOUT;
-use crate::codes::DAT_TIMEOUT;
-use crate::codes::HANDSHAKE_TIMEOUT;
-use crate::codes::RA_PROVER_MSG;
-use crate::codes::RA_PROVER_OK;
-use crate::codes::RA_TIMEOUT;
-use crate::codes::RA_VERIFIER_MSG;
-use crate::codes::RA_VERIFIER_OK;
-use crate::codes::SC_ACK;
-use crate::codes::SC_DAT;
-use crate::codes::SC_DATA;
-use crate::codes::SC_HELLO;
 use crate::reading::Carried;
+use table::codes::ACK_TIMEOUT;
+use table::codes::DAT_TIMEOUT;
+use table::codes::HANDSHAKE_TIMEOUT;
+use table::codes::RA_PROVER_MSG;
+use table::codes::RA_PROVER_OK;
+use table::codes::RA_TIMEOUT;
+use table::codes::RA_VERIFIER_MSG;
+use table::codes::RA_VERIFIER_OK;
+use table::codes::SC_ACK;
+use table::codes::SC_DAT;
+use table::codes::SC_DATA;
+use table::codes::SC_HELLO;
 
 // A tag is live if it isn't 0 and equals the record's tag of its driver or timer.
 fn live(tag: u32, own: u32) -> bool

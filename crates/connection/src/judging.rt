@@ -11,16 +11,16 @@ ghost use Rattle.connection.specs.WellFormed.{wellFormed};
 use crate::Answer;
 use crate::Connection;
 use crate::Outcome;
-use crate::codes;
 use crate::condition::condition;
 use crate::locking::lock;
 use crate::moves;
 use crate::moves::NO_ACTIONS;
 use crate::reading::Carried;
-use crate::states;
-use crate::table::IGNORED;
-use crate::table::next_state;
 use crate::well_formed::well_formed;
+use table::IGNORED;
+use table::codes;
+use table::next_state;
+use table::states;
 
 const MAX_TIMER: u32 = 2;
 

@@ -10,15 +10,12 @@ ghost use Rattle.connection.specs.WellFormed as spec;
 ghost use Rattle.connection.specs.Step.{resultOf};
 
 mod block;
-pub mod codes;
 mod condition;
 mod judging;
 mod locking;
 mod moves;
 pub mod orders;
 mod reading;
-pub mod states;
-mod table;
 mod well_formed;
 
 use crate::block::front;
@@ -26,6 +23,8 @@ use crate::block::store;
 use crate::judging::decide;
 use crate::reading::choose_suites;
 use crate::reading::read;
+pub use table::codes;
+pub use table::states;
 
 // The record of a connection. A tag is 0 when its driver or timer is off, else the number of the
 // handled event that started it.

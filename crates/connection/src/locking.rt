@@ -9,11 +9,11 @@ use crate::Actions;
 use crate::Answer;
 use crate::Connection;
 use crate::Outcome;
-use crate::codes;
 use crate::moves::NO_ACTIONS;
 use crate::orders;
 use crate::reading::Carried;
-use crate::states;
+use table::codes;
+use table::states;
 
 // CLOSE, but none to an error or to the peer's own close.
 fn closing_message(code: u32) -> u32

@@ -10,10 +10,10 @@ use crate::Actions;
 use crate::Answer;
 use crate::Connection;
 use crate::Outcome;
-use crate::codes;
 use crate::orders;
 use crate::reading::Carried;
-use crate::states;
+use table::codes;
+use table::states;
 
 // The empty order sheet.
 pub(crate) const NO_ACTIONS: Actions = Actions {

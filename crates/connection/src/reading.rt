@@ -6,23 +6,23 @@ ghost use Rattle.connection.specs.Kind.{kindOf, tagIn, timeoutTagIn, tim
 ghost use Rattle.connection.specs.Call.{chosenSuites, suitesOf, carriesPayload, shortLength, carriedBy};
 ghost use Rattle.suites.specs.Numbers.{foundOf, answerOf};
 use crate::Event;
-use crate::codes::ACK_TIMEOUT;
-use crate::codes::DAT_TIMEOUT;
-use crate::codes::HANDSHAKE_TIMEOUT;
-use crate::codes::RA_PROVER_MSG;
-use crate::codes::RA_VERIFIER_MSG;
-use crate::codes::RA_VERIFIER_OK;
-use crate::codes::SC_ACK;
-use crate::codes::SC_DAT;
-use crate::codes::SC_DATA;
-use crate::codes::SC_HELLO;
-use crate::codes::SC_RA_PROVER;
-use crate::codes::SC_RA_VERIFIER;
-use crate::codes::UPPER_SEND_DATA;
 use suites::Choice;
 use suites::Common;
 use suites::any_too_long;
 use suites::choose;
+use table::codes::ACK_TIMEOUT;
+use table::codes::DAT_TIMEOUT;
+use table::codes::HANDSHAKE_TIMEOUT;
+use table::codes::RA_PROVER_MSG;
+use table::codes::RA_VERIFIER_MSG;
+use table::codes::RA_VERIFIER_OK;
+use table::codes::SC_ACK;
+use table::codes::SC_DAT;
+use table::codes::SC_DATA;
+use table::codes::SC_HELLO;
+use table::codes::SC_RA_PROVER;
+use table::codes::SC_RA_VERIFIER;
+use table::codes::UPPER_SEND_DATA;
 use token::good_seconds;
 
 // The most bytes of a payload, and the fewest of a cache.

@@ -4,7 +4,7 @@ ghost use lib.Dec.{T, leb};
 ghost use Rattle.connection.specs.Limits.{limits};
 ghost use Rattle.connection.specs.WellFormed.{fieldsFit, tagsAtMost, fitsState, wellFormed};
 use crate::Connection;
-use crate::states;
+use table::states;
 
 const MAX_CACHED: u32 = 4096;
 

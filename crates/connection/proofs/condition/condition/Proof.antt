@@ -8,7 +8,7 @@ use borrow.Author.Needs.{needs}
 use Rattle.connection.specs.Condition.{nothing, questions, isLive, holds}
 use Rattle.connection.specs.declared.Connection.{Connection}
 use Rattle.connection.specs.declared.reading.Carried.{Carried}
-use Rattle.connection.proofs.Arms.{in-range, from}
+use Rattle.table.proofs.Arms.{in-range, from}
 use Rattle.connection.proofs.condition.condition.Statement.{statement}
 use Rattle.connection.proofs.condition.condition.Tie as tie
 use Rattle.connection.proofs.condition.condition.Reads as reads

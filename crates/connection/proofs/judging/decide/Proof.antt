@@ -8,7 +8,7 @@ use borrow.Author.Tests.{eq-eqb, ne-eqb, ltb-false, not-false}
 use Rattle.connection.specs.Limits.{limits}
 use Rattle.connection.specs.Refusal.{nextState}
 use Rattle.connection.specs.Step.{handledTo, decided}
-use Rattle.connection.specs.Table.{cell, settled}
+use Rattle.table.specs.Table.{cell, settled}
 use Rattle.connection.specs.WellFormed.{wellFormed}
 use Rattle.connection.proofs.Decided as judged
 use Rattle.connection.proofs.Effects.{is-moving, by-event, by-locking}
@@ -21,7 +21,7 @@ use Rattle.connection.proofs.judging.lowest_fault.Reads as lowest-fault
 use Rattle.connection.proofs.judging.move_on.Reads as move-on-reads
 use Rattle.connection.proofs.judging.unmoved.Reads as unmoved-reads
 use Rattle.connection.proofs.locking.lock.Reads as lock-reads
-use Rattle.connection.proofs.table.next_state.Reads as next-state-reads
+use Rattle.table.proofs.next_state.Reads as next-state-reads
 
 -- The next state, of the condition.
 next-is : (c : tie.After-next-state) → c .next-state .result ≡ nextState (c .before .before .before .before .args .connection) (c .before .before .before .before .args .code) (c .before .before .before .before .args .carried)

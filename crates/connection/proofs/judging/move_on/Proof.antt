@@ -3,7 +3,7 @@ use mathlib.Core.List.{List, [], _∷_}
 use Prim.Native.Nat.{ℕ}
 use borrow.Author.Needs.{needs}
 use Rattle.connection.specs.ByEvent.{moving}
-use Rattle.connection.proofs.Arms.{remains}
+use Rattle.table.proofs.Arms.{remains}
 use Rattle.connection.proofs.judging.move_on.Statement.{statement}
 use Rattle.connection.proofs.judging.move_on.Tie as tie
 use Rattle.connection.proofs.judging.move_on.Reads as reads

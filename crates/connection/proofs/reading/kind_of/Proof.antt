@@ -6,7 +6,7 @@ use native.Mathlib.Omega.{arith}
 use borrow.Author.Needs.{needs}
 use Rattle.connection.specs.Kind.{kindAt, kindOf}
 use Rattle.connection.specs.declared.reading.EventKind.the-variants.{Plain, Tagged, HandshakeTimeout, Bit, Token}
-use Rattle.connection.proofs.Arms.{at-keys, in-range, from}
+use Rattle.table.proofs.Arms.{at-keys, in-range, from}
 use Rattle.connection.proofs.Opening.{no-kind}
 use Rattle.connection.proofs.reading.kind_of.Statement.{statement}
 use Rattle.connection.proofs.reading.kind_of.Tie as tie

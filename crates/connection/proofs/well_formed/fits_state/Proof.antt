@@ -7,7 +7,7 @@ use lib.Dec.{T, leb, leb→le}
 use borrow.Author.Needs.{needs}
 use Rattle.connection.specs.WellFormed.{fitsState}
 use Rattle.connection.specs.declared.Connection.{Connection}
-use Rattle.connection.proofs.Arms.{beyond}
+use Rattle.table.proofs.Arms.{beyond}
 use Rattle.connection.proofs.well_formed.fits_state.Statement.{statement}
 use Rattle.connection.proofs.well_formed.fits_state.Tie as tie
 use Rattle.connection.proofs.well_formed.fits_state.Reads as reads

@@ -5,7 +5,7 @@ use borrow.Author.Needs.{needs}
 use borrow.Author.Tests.{not-true, not-false}
 use Rattle.connection.specs.Limits.{limits}
 use Rattle.connection.specs.WellFormed.{wellFormed}
-use Rattle.connection.proofs.Finite.{and-left}
+use Rattle.table.proofs.Finite.{and-left}
 use Rattle.connection.proofs.WellFormed.{state-fits}
 use Rattle.connection.proofs.well_formed.well_formed.Statement.{statement}
 use Rattle.connection.proofs.well_formed.well_formed.Tie as tie

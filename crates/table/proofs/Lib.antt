@@ -1,0 +1,3 @@
+pub mod Arms
+mod Cells
+pub mod Finite

@@ -1,0 +1,25 @@
+use mathlib.Core.List.{List, [], _∷_}
+use borrow.Author.Needs.{needs}
+use borrow.Author.Tests.{ne-eqb}
+use Rattle.table.specs.Table.{cell}
+use Rattle.table.proofs.unmet.Statement.{statement}
+use Rattle.table.proofs.unmet.Tie as tie
+use Rattle.table.proofs.unmet.Reads as reads
+use Rattle.table.proofs.unmet.Lts as lts
+use Rattle.table.proofs.bad_token.Reads as bad-token-reads
+use Rattle.table.proofs.failed_hello.Reads as failed-hello-reads
+
+-- Any other event has no cell here.
+returns-3 : tie.Need-returns-3
+unfolding cell
+returns-3 c = rw (ne-eqb _ _ (c .match .rest .0 .1), ne-eqb _ _ (c .match .rest .1))
+
+pub unmet-spec : {M : Type 1} → statement M
+unmet-spec =
+    tie.close
+    (tie.spec
+    (λ c κs. search needs)
+    (λ c κs. search needs)
+    (λ c. rw (c .before .match .keys1) (c .failed-hello .ensures))
+    (λ c. rw (c .before .match .keys2) (c .bad-token .ensures))
+    returns-3)
