@@ -10,16 +10,17 @@ use borrow.Author.Tests.{eqb-true, ltb-false, eq-eqb, ne-eqb}
 use denote.Enum.Declared.{tagOf}
 use types.Run.{OneOf, miss}
 use Rattle.connection.specs.Block.{stored}
-use Rattle.connection.specs.Call.{Call, carriesPayload, carriedBy}
+use Rattle.connection.specs.Call.{Call, carriesPayload, inputBy}
+use Rattle.connection.specs.Condition.{nextState}
 use Rattle.connection.specs.Limits.{Limits}
-use Rattle.connection.specs.Refusal.{refusal, faults, nextState}
+use Rattle.connection.specs.Refusal.{refusal, faults}
 use Rattle.connection.specs.Step.{unchanged, handledTo, decided, cacheAfter}
 use Rattle.connection.specs.declared.Answer.{Answer}
 use Rattle.connection.specs.declared.Answer.the-variants.{Handled, Ignored, Refused}
 use Rattle.connection.specs.declared.Connection.{Connection}
 use Rattle.connection.specs.declared.Event.{Event}
 use Rattle.connection.specs.declared.Outcome.{Outcome}
-use Rattle.connection.specs.declared.reading.Carried.{Carried}
+use Rattle.connection.specs.declared.reading.Input.{Input}
 use Rattle.connection.specs.declared.reading.Suites.{Suites}
 use Rattle.connection.proofs.Answer.{the-type}
 use Rattle.connection.proofs.Decided.{NoneOf, none-of}
@@ -32,19 +33,19 @@ not-refused : (b : Bool) (o : Outcome) (n : ℕ) (connection : Connection) → c
 not-refused true o n connection e = refl
 not-refused false o n connection e = absurd (never-refused n e)
 
-no-fault : (limits : Limits) (connection : Connection) (code : ℕ) (carried : Carried) → decided limits connection code carried .answer ≡ Handled → NoneOf (faults limits connection code carried)
+no-fault : (limits : Limits) (connection : Connection) (code : ℕ) (input : Input) → decided limits connection code input .answer ≡ Handled → NoneOf (faults limits connection code input)
 unfolding decided refusal
-no-fault limits connection code carried e =
-    none-of 0 (faults limits connection code carried)
-    (eqb-true (refusal limits connection code carried) 0
-    (not-refused (eqb (refusal limits connection code carried) 0) (cond (eqb (nextState connection code carried) 11) (unchanged Ignored connection) (handledTo (nextState connection code carried) connection code carried)) (refusal limits connection code carried) connection e))
+no-fault limits connection code input e =
+    none-of 0 (faults limits connection code input)
+    (eqb-true (refusal limits connection code input) 0
+    (not-refused (eqb (refusal limits connection code input) 0) (cond (eqb (nextState connection code input) 11) (unchanged Ignored connection) (handledTo (nextState connection code input) connection code input)) (refusal limits connection code input) connection e))
 
 -- The payload of a handled event 2 fits in the cache.
 pub room-for : (limits : Limits) (connection : Connection) (event : Event) (payloadLength cacheLength : ℕ) (suites : Suites)
-    → decided limits connection (event .code) (carriedBy limits event payloadLength cacheLength suites) .answer ≡ Handled → event .code ≡ 2 → payloadLength ≤ cacheLength
-unfolding carriedBy
+    → decided limits connection (event .code) (inputBy limits event payloadLength cacheLength suites) .answer ≡ Handled → event .code ≡ 2 → payloadLength ≤ cacheLength
+unfolding inputBy
 room-for limits connection event payloadLength cacheLength suites e two =
-    let f = no-fault limits connection (event .code) (carriedBy limits event payloadLength cacheLength suites) e in
+    let f = no-fault limits connection (event .code) (inputBy limits event payloadLength cacheLength suites) e in
     let p = ltb-false (limits .payload) payloadLength (subst (λ (k : ℕ). (carriesPayload k && ltb (limits .payload) payloadLength) ≡ false) two (f .1 .1 .1 .0)) in
     let q = ltb-false cacheLength (limits .payload) (f .1 .1 .1 .1 .0) in
     omega arith

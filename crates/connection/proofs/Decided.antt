@@ -6,15 +6,16 @@ use mathlib.Core.List.{List, [], _∷_, _++_}
 use Prim.Native.Nat.{ℕ, suc}
 use native.Mathlib.Omega.{arith}
 use lib.Dec.{eqb}
-use borrow.Author.Tests.{ne-eqb}
+use borrow.Author.Tests.{ne-eqb, eqb-true}
+use Rattle.connection.specs.Condition.{nextState}
 use Rattle.connection.specs.Limits.{Limits}
-use Rattle.connection.specs.Refusal.{argumentFaults, firstFault, nextState, refusal}
-use Rattle.connection.specs.Step.{unchanged, handledTo, decided}
+use Rattle.connection.specs.Refusal.{argumentFaults, firstFault, refusal}
+use Rattle.connection.specs.Step.{refusalNumber, unchanged, handledTo, decided}
 use Rattle.connection.specs.WellFormed.{wellFormed}
 use Rattle.connection.specs.declared.Answer.the-variants.{Ignored, Refused}
 use Rattle.connection.specs.declared.Connection.{Connection}
 use Rattle.connection.specs.declared.Outcome.{Outcome}
-use Rattle.connection.specs.declared.reading.Carried.{Carried}
+use Rattle.connection.specs.declared.reading.Input.{Input}
 
 -- The number after those of a list of faults.
 abbrev after : ℕ → List Bool → ℕ
@@ -37,41 +38,54 @@ none-of n [] e = tt
 none-of n (true ∷ xs) e = absurd (omega arith)
 none-of n (false ∷ xs) e = (refl, none-of (suc n) xs e)
 
-module _ (limits : Limits) (connection : Connection) (code : ℕ) (carried : Carried) where
+module _ (limits : Limits) (connection : Connection) (code : ℕ) (input : Input) where
   -- Faults 1 to 7.
   abbrev pub lowerFaults : List Bool
-  lowerFaults = argumentFaults code carried ++ (not (wellFormed limits connection) ∷ [])
+  lowerFaults = argumentFaults code input ++ (not (wellFormed limits connection) ∷ [])
 
   -- The outcome, of the lowest of them, the next state and whether the number is the largest.
   abbrev judged : (lower to : ℕ) (full : Bool) → Outcome
   judged lower to full =
       let number = cond (eqb lower 0) (cond (not (eqb to 11) && full) 8 0) lower in
-      cond (eqb number 0) (cond (eqb to 11) (unchanged Ignored connection) (handledTo to connection code carried)) (unchanged (Refused number) connection)
+      cond (eqb number 0) (cond (eqb to 11) (unchanged Ignored connection) (handledTo to connection code input)) (unchanged (Refused number) connection)
 
-  decided-by : decided limits connection code carried ≡ judged (firstFault 1 lowerFaults) (nextState connection code carried) (eqb (connection .handled) (limits .handled))
+  decided-by : decided limits connection code input ≡ judged (firstFault 1 lowerFaults) (nextState connection code input) (eqb (connection .handled) (limits .handled))
   unfolding decided refusal
-  decided-by = rw (first-of 0 lowerFaults ((not (eqb (nextState connection code carried) 11) && eqb (connection .handled) (limits .handled)) ∷ []))
+  decided-by = rw (first-of 0 lowerFaults ((not (eqb (nextState connection code input) 11) && eqb (connection .handled) (limits .handled)) ∷ []))
 
-  module _ (lower to : ℕ) (full : Bool) (is-lower : lower ≡ firstFault 1 lowerFaults) (is-next : to ≡ nextState connection code carried) (is-full : eqb (connection .handled) (limits .handled) ≡ full) where
-    as-judged : judged lower to full ≡ decided limits connection code carried
+  module _ (lower to : ℕ) (full : Bool) (is-lower : lower ≡ firstFault 1 lowerFaults) (is-next : to ≡ nextState connection code input) (is-full : eqb (connection .handled) (limits .handled) ≡ full) where
+    as-judged : judged lower to full ≡ decided limits connection code input
     as-judged =
         ap (λ (l : ℕ). judged l to full) is-lower ∙
         ap (λ (t : ℕ). judged (firstFault 1 lowerFaults) t full) is-next ∙
-        ap (λ (f : Bool). judged (firstFault 1 lowerFaults) (nextState connection code carried) f) (sym is-full) ∙
+        ap (λ (f : Bool). judged (firstFault 1 lowerFaults) (nextState connection code input) f) (sym is-full) ∙
         sym decided-by
 
-    pub refused : eqb lower 0 ≡ false → unchanged (Refused lower) connection ≡ decided limits connection code carried
+    pub refused : eqb lower 0 ≡ false → unchanged (Refused lower) connection ≡ decided limits connection code input
     refused e = rw (e, e) at as-judged
 
-    pub ignored : lower ≡ 0 → to ≡ 11 → unchanged Ignored connection ≡ decided limits connection code carried
+    pub ignored : lower ≡ 0 → to ≡ 11 → unchanged Ignored connection ≡ decided limits connection code input
     ignored e i = rw (e, i) at as-judged
 
-    pub refused-full : lower ≡ 0 → eqb to 11 ≡ false → full ≡ true → unchanged (Refused 8) connection ≡ decided limits connection code carried
+    pub refused-full : lower ≡ 0 → eqb to 11 ≡ false → full ≡ true → unchanged (Refused 8) connection ≡ decided limits connection code input
     refused-full e i f = rw (e, i, f) at as-judged
 
-    pub handled : lower ≡ 0 → eqb to 11 ≡ false → full ≡ false → handledTo to connection code carried ≡ decided limits connection code carried
+    pub handled : lower ≡ 0 → eqb to 11 ≡ false → full ≡ false → handledTo to connection code input ≡ decided limits connection code input
     handled e i f = rw (e, i, f) at as-judged
 
   -- What the lower faults say where none is present.
   pub no-faults : 0 ≡ firstFault 1 lowerFaults → NoneOf lowerFaults
   no-faults e = none-of 0 lowerFaults (sym e)
+
+  number-by : (n to : ℕ) (none ignores : Bool) → eqb n 0 ≡ none
+      → refusalNumber (cond none (cond ignores (unchanged Ignored connection) (handledTo to connection code input)) (unchanged (Refused n) connection) .answer) ≡ n
+  number-by n to true true e = sym (eqb-true n 0 e)
+  number-by n to true false e = sym (eqb-true n 0 e)
+  number-by n to false ignores e = refl
+
+  pub number-is : refusalNumber (decided limits connection code input .answer) ≡ refusal limits connection code input
+  unfolding decided
+  number-is =
+      let n = refusal limits connection code input in
+      let to = nextState connection code input in
+      number-by n to (eqb n 0) (eqb to 11) refl

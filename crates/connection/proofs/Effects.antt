@@ -10,9 +10,8 @@ use types.Run.{OneOf}
 use Rattle.connection.specs.Actions.{lockingSheet, movingSheet, ordersOf, actionsOf}
 use Rattle.connection.specs.Advance.{raised, locked, moved, tagsAfter, advance}
 use Rattle.connection.specs.ByEvent.{Effect, keep, start, cancel, expire, clear, effectOf, tagBy, orderBy, byEvent, byLocking, moving}
-use Rattle.connection.specs.Condition.{holds}
+use Rattle.connection.specs.Condition.{holds, nextState}
 use Rattle.connection.specs.Limits.{Limits}
-use Rattle.connection.specs.Refusal.{nextState}
 use Rattle.table.specs.Sets.{isIn}
 use Rattle.connection.specs.Step.{handledTo}
 use Rattle.table.specs.Table.{cell, settled}
@@ -20,7 +19,7 @@ use Rattle.connection.specs.Timers.{Timer, H, HP, HV, DAT, RA, ACK, tagO
 use Rattle.connection.specs.WellFormed.{wellFormed}
 use Rattle.connection.specs.declared.Answer.the-variants.{Handled}
 use Rattle.connection.specs.declared.Connection.{Connection}
-use Rattle.connection.specs.declared.reading.Carried.{Carried}
+use Rattle.connection.specs.declared.reading.Input.{Input}
 use Rattle.table.proofs.Arms.{one-of}
 use Rattle.table.proofs.Finite.{and-left, and-right, below, below-at, either, either-at}
 use Rattle.connection.proofs.WellFormed.{offIn, Parts, parts}
@@ -97,7 +96,7 @@ abbrev timers : (Timer → Bool) → Bool
 timers p = p H && (p HP && (p HV && (p DAT && (p RA && p ACK))))
 
 timers-at : (p : Timer → Bool) → T (timers p) → (timer : Timer) → T (p timer)
-timers-at p t H = search (and-left, and-right) depth 16
+timers-at p t H = search and-left
 timers-at p t HP = search (and-left, and-right) depth 16
 timers-at p t HV = search (and-left, and-right) depth 16
 timers-at p t DAT = search (and-left, and-right) depth 16
@@ -147,11 +146,11 @@ fit s k flag to b hs hk hf e n =
     (below-at 10 (λ i. below 24 (λ j. below 2 (λ f. either (cellFits i j f)))) all-fit s (omega arith)) k hk) flag (omega arith)) b))
 
 -- The record and the sheet of a move, by the tags and the orders.
-moved-by : (f g : Timer → ℕ) → ((x : Timer) → f x ≡ g x) → (number : ℕ) (connection : Connection) (code : ℕ) (carried : Carried) (to : ℕ) → moved f number connection code carried to ≡ moved g number connection code carried to
-moved-by f g p number connection code carried to = rw (p H, p HP, p HV, p DAT, p RA, p ACK)
+moved-by : (f g : Timer → ℕ) → ((x : Timer) → f x ≡ g x) → (number : ℕ) (connection : Connection) (code : ℕ) (input : Input) (to : ℕ) → moved f number connection code input to ≡ moved g number connection code input to
+moved-by f g p number connection code input to = rw (p H, p HP, p HV, p DAT, p RA, p ACK)
 
-sheet-by : (f g : Timer → ℕ) → ((x : Timer) → f x ≡ g x) → (connection : Connection) (code : ℕ) (carried : Carried) → movingSheet f connection code carried ≡ movingSheet g connection code carried
-sheet-by f g p connection code carried = rw (p H, p HP, p HV, p DAT, p RA, p ACK)
+sheet-by : (f g : Timer → ℕ) → ((x : Timer) → f x ≡ g x) → (connection : Connection) (code : ℕ) (input : Input) → movingSheet f connection code input ≡ movingSheet g connection code input
+sheet-by f g p connection code input = rw (p H, p HP, p HV, p DAT, p RA, p ACK)
 
 otherwise : {A : Type 0} (b : Bool) (x y : A) → b ≡ false → cond b x y ≡ y
 otherwise true x y e = absurd (subst (λ (c : Bool). T c) e tt)
@@ -166,14 +165,14 @@ reports-by DAT k name e = refl
 reports-by RA k name e = refl
 reports-by ACK k name e = refl
 
-module _ (limits : Limits) (connection : Connection) (code : ℕ) (carried : Carried) (to : ℕ)
+module _ (limits : Limits) (connection : Connection) (code : ℕ) (input : Input) (to : ℕ)
     (well : T (wellFormed limits connection)) (known : code < 24)
-    (next : nextState connection code carried ≡ to) (heard : eqb to 11 ≡ false) (stays : eqb to 9 ≡ false) where
+    (next : nextState connection code input ≡ to) (heard : eqb to 11 ≡ false) (stays : eqb to 9 ≡ false) where
   fitting : Fit (connection .state) code to
   unfolding nextState
   fitting =
       let p = parts limits connection well in
-      fit (connection .state) code (connection .«awaiting_ack») to (holds connection code carried) (p .state) known (p .flag) next (rw heard stays)
+      fit (connection .state) code (connection .«awaiting_ack») to (holds connection code input) (p .state) known (p .flag) next (rw heard stays)
 
   pub is-moving : OneOf moving code
   unfolding fitting
@@ -182,23 +181,23 @@ module _ (limits : Limits) (connection : Connection) (code : ℕ) (carried : Car
   tag-of : (x : Timer) → tagBy (effectOf code (connection .state) to x) (raised connection) (tagOf connection x) ≡ tagsAfter connection code to x
   tag-of x = tag-fits (effectOf code (connection .state) to x) (starts x code (connection .state) to) (ends x code (connection .state) to) (reports x code 0) (offIn x (connection .state)) (runsIn x (connection .state)) (raised connection) (tagOf connection x) (parts limits connection well .off x) (fitting .effect x)
 
-  order-of : (x : Timer) → orderBy (effectOf code (connection .state) to x) (tagOf connection x) ≡ ordersOf connection code carried to x
+  order-of : (x : Timer) → orderBy (effectOf code (connection .state) to x) (tagOf connection x) ≡ ordersOf connection code input to x
   order-of x =
       order-fits (effectOf code (connection .state) to x) (starts x code (connection .state) to) (ends x code (connection .state) to) (reports x code 0) (offIn x (connection .state)) (runsIn x (connection .state)) (tagOf connection x) (parts limits connection well .off x) (parts limits connection well .on x) (fitting .effect x)
-      ∙ ap (λ (r : Bool). timerOrder (starts x code (connection .state) to) (ends x code (connection .state) to) r (tagOf connection x)) (reports-by x code (carried .timer) (fitting .no-timeout))
+      ∙ ap (λ (r : Bool). timerOrder (starts x code (connection .state) to) (ends x code (connection .state) to) r (tagOf connection x)) (reports-by x code (input .timer) (fitting .no-timeout))
 
   -- What the code does for an event that moves on is what the definitions say.
-  pub by-event : byEvent (raised connection) connection code carried to ≡ handledTo to connection code carried
+  pub by-event : byEvent (raised connection) connection code input to ≡ handledTo to connection code input
   unfolding advance actionsOf
   by-event =
       let effect = effectOf code (connection .state) to in
-      let p = moved-by (λ x. tagBy (effect x) (raised connection) (tagOf connection x)) (tagsAfter connection code to) tag-of (raised connection) connection code carried to in
-      let q = sheet-by (λ x. orderBy (effect x) (tagOf connection x)) (ordersOf connection code carried to) order-of connection code carried in
+      let p = moved-by (λ x. tagBy (effect x) (raised connection) (tagOf connection x)) (tagsAfter connection code to) tag-of (raised connection) connection code input to in
+      let q = sheet-by (λ x. orderBy (effect x) (tagOf connection x)) (ordersOf connection code input to) order-of connection code input in
       let p′ = p ∙ sym (otherwise (eqb to 9) (locked (raised connection)) _ stays) in
-      let q′ = q ∙ sym (otherwise (eqb to 9) (lockingSheet (ordersOf connection code carried to) connection code) _ stays) in
+      let q′ = q ∙ sym (otherwise (eqb to 9) (lockingSheet (ordersOf connection code input to) connection code) _ stays) in
       λ i. record { answer = Handled; connection = p′ i; actions = q′ i }
 
 -- What it does for an event that locks, too.
-pub by-locking : (connection : Connection) (code : ℕ) (carried : Carried) → byLocking (raised connection) connection code carried ≡ handledTo 9 connection code carried
+pub by-locking : (connection : Connection) (code : ℕ) (input : Input) → byLocking (raised connection) connection code input ≡ handledTo 9 connection code input
 unfolding advance actionsOf
-by-locking connection code carried = refl
+by-locking connection code input = refl

@@ -1,5 +1,7 @@
 mod Cache
-mod Decided
+pub mod Cases
+pub mod Decided
 mod Effects
+pub mod Joined
 mod Opening
 mod WellFormed

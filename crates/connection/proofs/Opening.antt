@@ -11,7 +11,7 @@ use denote.Enum.Declared.{tagOf}
 use types.Run.{OneOf}
 use Rattle.token.proofs.Good.{good-is-positive}
 use Rattle.token.specs.SecondsLeft.{secondsLeft}
-use Rattle.connection.specs.Kind.{kinds, kindAt, goodIn, secondsIn}
+use Rattle.connection.specs.Kind.{kinds, kindAt, fieldsOf}
 use Rattle.connection.specs.declared.Event.{Event}
 use Rattle.connection.specs.declared.reading.EventKind.{EventKind}
 use Rattle.connection.specs.declared.reading.EventKind.the-variants.{Plain, Tagged, HandshakeTimeout, Bit, Token}
@@ -43,7 +43,7 @@ pub no-kind : (event : Event) (k : ℕ) → 24 ≤ k → Plain ≡ kindAt k even
 no-kind event k h = sym (List·getD-eq-default (kinds event) Plain h)
 
 -- A token is good exactly if it has seconds.
-pub good-seconds : (kind : EventKind) → ltb 0 (secondsIn kind) ≡ goodIn kind
+pub good-seconds : (kind : EventKind) → ltb 0 (fieldsOf kind .seconds) ≡ fieldsOf kind .isGood
 good-seconds Plain = refl
 good-seconds (Tagged tag) = refl
 good-seconds (HandshakeTimeout tag timer) = refl

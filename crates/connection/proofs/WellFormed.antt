@@ -6,14 +6,14 @@ use Prim.Native.Nat.{ℕ, _≤_}
 use native.Mathlib.Omega.{arith}
 use lib.Dec.{T, eqb, eqb→eq, leb, leb→le}
 use Rattle.connection.specs.Limits.{Limits}
-use Rattle.connection.specs.Timers.{Timer, H, HP, HV, DAT, RA, ACK, tagOf, runsIn, raFree, isRa}
+use Rattle.connection.specs.Timers.{Timer, H, HP, HV, DAT, RA, ACK, tagOf, runsIn, raMayRun, isRa}
 use Rattle.connection.specs.WellFormed.{fieldsFit, tagsAtMost, fitsState, onJustIn, wellFormed}
 use Rattle.connection.specs.declared.Connection.{Connection}
 use Rattle.table.proofs.Finite.{and-left, and-right, below-at}
 
 -- Whether a timer's tag is off in a state, whatever the record.
 abbrev pub offIn : Timer → (state : ℕ) → Bool
-offIn timer state = not (runsIn timer state) && not (isRa timer && raFree state)
+offIn timer state = not (runsIn timer state) && not (isRa timer && raMayRun state)
 
 pub record Parts (connection : Connection) : Type 0 where
   pub state : connection .state ≤ 9
@@ -41,15 +41,15 @@ never-free true = tt
 never-free false = tt
 
 -- RA is on or off in no state in which it runs.
-ra-free : (timer : Timer) (state : ℕ) → state ≤ 9 → T (not (runsIn timer state && (isRa timer && raFree state)))
+ra-free : (timer : Timer) (state : ℕ) → state ≤ 9 → T (not (runsIn timer state && (isRa timer && raMayRun state)))
 ra-free H state h = never-free (runsIn H state)
 ra-free HP state h = never-free (runsIn HP state)
 ra-free HV state h = never-free (runsIn HV state)
 ra-free DAT state h = never-free (runsIn DAT state)
-ra-free RA state h = below-at 10 (λ s. not (runsIn RA s && raFree s)) tt state (omega arith)
+ra-free RA state h = below-at 10 (λ s. not (runsIn RA s && raMayRun s)) tt state (omega arith)
 ra-free ACK state h = never-free (runsIn ACK state)
 
-rule : (c : Connection) → T (fitsState (c .state) c) → (timer : Timer) → T (cond (isRa timer && raFree (c .state)) true (onJustIn timer (c .state) (tagOf c timer)))
+rule : (c : Connection) → T (fitsState (c .state) c) → (timer : Timer) → T (cond (isRa timer && raMayRun (c .state)) true (onJustIn timer (c .state) (tagOf c timer)))
 rule c t H = search (and-left, and-right) depth 16
 rule c t HP = search (and-left, and-right) depth 16
 rule c t HV = search (and-left, and-right) depth 16
@@ -72,6 +72,6 @@ parts limits c t =
     record {
       state = small;
       flag = leb→le (c .«awaiting_ack») 1 (flag-fits limits c fields);
-      off = λ timer. just-off (runsIn timer (c .state)) (isRa timer && raFree (c .state)) (tagOf c timer) (rule c fits timer);
-      on = λ timer. just-on (runsIn timer (c .state)) (isRa timer && raFree (c .state)) (tagOf c timer) (ra-free timer (c .state) small) (rule c fits timer);
+      off = λ timer. just-off (runsIn timer (c .state)) (isRa timer && raMayRun (c .state)) (tagOf c timer) (rule c fits timer);
+      on = λ timer. just-on (runsIn timer (c .state)) (isRa timer && raMayRun (c .state)) (tagOf c timer) (ra-free timer (c .state) small) (rule c fits timer);
     }

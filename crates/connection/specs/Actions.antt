@@ -9,7 +9,7 @@ use Rattle.connection.specs.Call.{carriesPayload}
 use Rattle.connection.specs.Timers.{Timer, H, HP, HV, DAT, RA, ACK, tagOf, starts, ends, reports, startsProver, startsVerifier, timerOrder}
 use Rattle.connection.specs.declared.Actions.{Actions}
 use Rattle.connection.specs.declared.Connection.{Connection}
-use Rattle.connection.specs.declared.reading.Carried.{Carried}
+use Rattle.connection.specs.declared.reading.Input.{Input}
 
 -- The empty sheet.
 abbrev pub noActions : Actions
@@ -28,11 +28,11 @@ noActions = record {
   deliver = false;
   «verifier_suite» = 0;
   «prover_suite» = 0;
-  payload = order.none;
+  «payload_slice» = order.none;
   «payload_len» = 0;
 }
 
--- Locking sends CLOSE, but 10 and 12 lock silently.
+-- Locking sends CLOSE; 10 and 12 lock silently.
 abbrev pub closing : (code : ℕ) → ℕ
 closing code = cond (isIn (10 ∷ 12 ∷ []) code) order.none order.CLOSE
 
@@ -57,7 +57,7 @@ lockingSheet orders connection code = record {
   deliver = false;
   «verifier_suite» = 0;
   «prover_suite» = 0;
-  payload = order.none;
+  «payload_slice» = order.none;
   «payload_len» = 0;
 }
 
@@ -77,7 +77,7 @@ messageOf code =
 abbrev pub proverOrder : (code : ℕ) → ℕ
 proverOrder code = cond (startsProver code) order.start (cond (eqb code 16) order.forward order.none)
 
--- The verifier's order: event 21 stops it, event 15 is passed to it.
+-- The verifier's order: event 21 stops it if it runs, event 15 is passed to it.
 abbrev pub verifierOrder : (code tag : ℕ) → ℕ
 verifierOrder code tag =
     cond (startsVerifier code) order.start
@@ -94,13 +94,13 @@ sourceOf code =
     cond (isIn (2 ∷ 23 ∷ []) code) order.ofCache
     (cond (isIn (6 ∷ 9 ∷ 15 ∷ 16 ∷ 18 ∷ []) code) order.ofEvent order.none)
 
--- Its length: the cached length for 23, the length of the event's payload for the others.
+-- Its length: the cached length for 23, the length of the event's payload if it carries one, else 0.
 abbrev pub lengthOf : (code cachedLen payloadLen : ℕ) → ℕ
 lengthOf code cachedLen payloadLen = cond (eqb code 23) cachedLen (cond (carriesPayload code) payloadLen 0)
 
--- The sheet of an event that doesn't lock; the orders to the timers are given. Both suites go out on opening.
-abbrev pub movingSheet : (Timer → ℕ) → Connection → (code : ℕ) → Carried → Actions
-movingSheet orders connection code carried = record {
+-- The sheet of an event that doesn't lock; the orders to the timers are given. It has both suites on opening.
+abbrev pub movingSheet : (Timer → ℕ) → Connection → (code : ℕ) → Input → Actions
+movingSheet orders connection code input = record {
   message = messageOf code;
   prover = proverOrder code;
   verifier = verifierOrder code (connection .verifier);
@@ -110,23 +110,23 @@ movingSheet orders connection code carried = record {
   dat = orders DAT;
   ra = orders RA;
   ack = orders ACK;
-  «dat_seconds» = cond (eqb (orders DAT) order.start) (carried .seconds) 0;
-  bit = bitOf code (connection .«next_send_bit») (carried .bit);
+  «dat_seconds» = cond (eqb (orders DAT) order.start) (input .seconds) 0;
+  bit = bitOf code (connection .«next_send_bit») (input .bit);
   deliver = eqb code 18;
-  «verifier_suite» = cond (eqb code 11) (carried .suites .verifier) 0;
-  «prover_suite» = cond (eqb code 11) (carried .suites .prover) 0;
-  payload = sourceOf code;
-  «payload_len» = lengthOf code (connection .«cached_len») (carried .«payload_len»);
+  «verifier_suite» = cond (eqb code 11) (input .suites .verifier) 0;
+  «prover_suite» = cond (eqb code 11) (input .suites .prover) 0;
+  «payload_slice» = sourceOf code;
+  «payload_len» = lengthOf code (connection .«cached_len») (input .«payload_len»);
 }
 
 -- Each timer's order by its rules.
-abbrev pub ordersOf : Connection → (code : ℕ) → Carried → (to : ℕ) → Timer → ℕ
-ordersOf connection code carried to timer =
+abbrev pub ordersOf : Connection → (code : ℕ) → Input → (to : ℕ) → Timer → ℕ
+ordersOf connection code input to timer =
     timerOrder (starts timer code (connection .state) to) (ends timer code (connection .state) to)
-    (reports timer code (carried .timer)) (tagOf connection timer)
+    (reports timer code (input .timer)) (tagOf connection timer)
 
 -- The actions of a handled event that leads to a state.
-unfoldable pub actionsOf : Connection → (code : ℕ) → Carried → (to : ℕ) → Actions
-actionsOf connection code carried to =
-    cond (eqb to 9) (lockingSheet (ordersOf connection code carried to) connection code)
-    (movingSheet (ordersOf connection code carried to) connection code carried)
+unfoldable pub actionsOf : Connection → (code : ℕ) → Input → (to : ℕ) → Actions
+actionsOf connection code input to =
+    cond (eqb to 9) (lockingSheet (ordersOf connection code input to) connection code)
+    (movingSheet (ordersOf connection code input to) connection code input)

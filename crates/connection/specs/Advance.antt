@@ -4,7 +4,7 @@ use mathlib.Core.Bool.{Bool, cond}
 use lib.Dec.{eqb}
 use Rattle.connection.specs.Timers.{Timer, H, HP, HV, DAT, RA, ACK, tagOf, starts, ends, tagAfter}
 use Rattle.connection.specs.declared.Connection.{Connection}
-use Rattle.connection.specs.declared.reading.Carried.{Carried}
+use Rattle.connection.specs.declared.reading.Input.{Input}
 
 -- A handled event raises the number by 1.
 abbrev pub raised : Connection → ℕ
@@ -33,13 +33,13 @@ locked number = record {
 
 -- An event that doesn't lock: 2 keeps the payload's length and sets the flag, 19 clears both and flips the next-send bit,
 -- 18 flips the expected bit; the tags are given.
-abbrev pub moved : (Timer → ℕ) → (number : ℕ) → Connection → (code : ℕ) → Carried → (to : ℕ) → Connection
-moved tags number connection code carried to = record {
+abbrev pub moved : (Timer → ℕ) → (number : ℕ) → Connection → (code : ℕ) → Input → (to : ℕ) → Connection
+moved tags number connection code input to = record {
   state = to;
   «awaiting_ack» = cond (eqb code 2) 1 (cond (eqb code 19) 0 (connection .«awaiting_ack»));
   «next_send_bit» = cond (eqb code 19) (flipped (connection .«next_send_bit»)) (connection .«next_send_bit»);
   «expected_bit» = cond (eqb code 18) (flipped (connection .«expected_bit»)) (connection .«expected_bit»);
-  «cached_len» = cond (eqb code 2) (carried .«payload_len») (cond (eqb code 19) 0 (connection .«cached_len»));
+  «cached_len» = cond (eqb code 2) (input .«payload_len») (cond (eqb code 19) 0 (connection .«cached_len»));
   handled = number;
   h = tags H;
   prover = tags HP;
@@ -56,7 +56,7 @@ tagsAfter connection code to timer =
     (raised connection) (tagOf connection timer)
 
 -- The record after a handled event that leads to a state.
-unfoldable pub advance : Connection → (code : ℕ) → Carried → (to : ℕ) → Connection
-advance connection code carried to =
+unfoldable pub advance : Connection → (code : ℕ) → Input → (to : ℕ) → Connection
+advance connection code input to =
     cond (eqb to 9) (locked (raised connection))
-    (moved (tagsAfter connection code to) (raised connection) connection code carried to)
+    (moved (tagsAfter connection code to) (raised connection) connection code input to)

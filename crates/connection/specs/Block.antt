@@ -18,5 +18,5 @@ front len bytes = cond (leb len (length bytes)) (take len bytes) []
 -- The part that a sheet names, of the event's payload or of the cache.
 unfoldable pub partOf : Actions → (payload cache : List ℕ) → List ℕ
 partOf actions payload cache =
-    cond (eqb (actions .payload) order.ofCache) (front (actions .«payload_len») cache)
-    (cond (eqb (actions .payload) order.ofEvent) (front (actions .«payload_len») payload) [])
+    cond (eqb (actions .«payload_slice») order.ofCache) (front (actions .«payload_len») cache)
+    (cond (eqb (actions .«payload_slice») order.ofEvent) (front (actions .«payload_len») payload) [])

@@ -1,5 +1,5 @@
--- What each event that doesn't lock does to the timers, event by event, as the code has it.
--- No definition of the step rests on this file: the code's private functions promise it, and the proofs show that it is what the rules in `Timers` say.
+-- The step event by event, as the code has it. No definition rests on this file: private functions promise it,
+-- and the proofs show that it is what the rules say.
 use Prim.Native.Nat.{ℕ}
 use mathlib.Core.Bool.{cond}
 use mathlib.Core.List.{List, [], _∷_}
@@ -13,9 +13,11 @@ use Rattle.connection.specs.Actions.{lockingSheet, movingSheet, ordersOf
 use Rattle.connection.specs.declared.Answer.the-variants.{Handled}
 use Rattle.connection.specs.declared.Connection.{Connection}
 use Rattle.connection.specs.declared.Outcome.{Outcome}
-use Rattle.connection.specs.declared.reading.Carried.{Carried}
+use Rattle.connection.specs.declared.reading.EventKind.{EventKind}
+use Rattle.connection.specs.declared.reading.EventKind.the-variants.{Plain, Tagged, HandshakeTimeout, Bit, Token}
+use Rattle.connection.specs.declared.reading.Input.{Input}
 
--- The effects on a timer: kept as it is, started, cancelled while it runs, ended by its own report, or cancelled if it runs.
+-- The effects on a timer: kept as it is; started; cancelled where it is known to run; ended by its own report; cancelled where it may be off.
 pub data Effect : Type 0 where
   keep start cancel expire clear : Effect
 
@@ -31,32 +33,32 @@ six h hp hv dat ra ack ACK = ack
 -- A row for each code from 0 to 23, of the state before and the state after.
 abbrev pub effects : (from to : ℕ) → List (Timer → Effect)
 effects from to =
-    let none = six keep keep keep keep keep keep in
+    let nothing = six keep keep keep keep keep keep in
     let ifWaiting = cond (eqb to 8) start keep in
-    six start keep keep keep keep keep
-    ∷ none
-    ∷ six keep keep keep keep keep start
-    ∷ six keep keep start keep cancel clear
-    ∷ six keep keep cancel keep start ifWaiting
-    ∷ none
-    ∷ none
-    ∷ six keep cancel keep keep keep ifWaiting
-    ∷ none
-    ∷ none
-    ∷ none
-    ∷ six cancel start start start keep keep
-    ∷ none
-    ∷ six cancel keep start start clear keep
-    ∷ six keep start keep keep keep clear
-    ∷ none
-    ∷ none
-    ∷ six keep start keep keep keep clear
-    ∷ none
-    ∷ six keep keep keep keep keep clear
-    ∷ none
-    ∷ six start keep clear expire (cond (isIn (7 ∷ 8 ∷ []) from) cancel keep) clear
-    ∷ six keep keep start keep expire clear
-    ∷ six keep keep keep keep keep start
+    six start keep keep keep keep keep  -- 0
+    ∷ nothing  -- 1
+    ∷ six keep keep keep keep keep start  -- 2
+    ∷ six keep keep start keep cancel clear  -- 3
+    ∷ six keep keep cancel keep start ifWaiting  -- 4
+    ∷ nothing  -- 5
+    ∷ nothing  -- 6
+    ∷ six keep cancel keep keep keep ifWaiting  -- 7
+    ∷ nothing  -- 8
+    ∷ nothing  -- 9
+    ∷ nothing  -- 10
+    ∷ six cancel start start start keep keep  -- 11
+    ∷ nothing  -- 12
+    ∷ six cancel keep start start clear keep  -- 13
+    ∷ six keep start keep keep keep clear  -- 14
+    ∷ nothing  -- 15
+    ∷ nothing  -- 16
+    ∷ six keep start keep keep keep clear  -- 17
+    ∷ nothing  -- 18
+    ∷ six keep keep keep keep keep clear  -- 19
+    ∷ nothing  -- 20
+    ∷ six start keep clear expire (cond (isIn (7 ∷ 8 ∷ []) from) cancel keep) clear  -- 21
+    ∷ six keep keep start keep expire clear  -- 22
+    ∷ six keep keep keep keep keep start  -- 23
     ∷ []
 
 abbrev pub effectOf : (code from to : ℕ) → Timer → Effect
@@ -79,23 +81,31 @@ orderBy expire tag = order.none
 orderBy clear tag = cond (eqb tag 0) order.none order.cancel
 
 -- A handled event that doesn't lock.
-abbrev pub byEvent : (number : ℕ) → Connection → (code : ℕ) → Carried → (to : ℕ) → Outcome
-byEvent number connection code carried to =
+abbrev pub byEvent : (number : ℕ) → Connection → (code : ℕ) → Input → (to : ℕ) → Outcome
+byEvent number connection code input to =
     let effect = effectOf code (connection .state) to in
     record {
       answer = Handled;
-      connection = moved (λ timer. tagBy (effect timer) number (tagOf connection timer)) number connection code carried to;
-      actions = movingSheet (λ timer. orderBy (effect timer) (tagOf connection timer)) connection code carried;
+      connection = moved (λ timer. tagBy (effect timer) number (tagOf connection timer)) number connection code input to;
+      actions = movingSheet (λ timer. orderBy (effect timer) (tagOf connection timer)) connection code input;
     }
 
 -- A handled event that locks.
-abbrev pub byLocking : (number : ℕ) → Connection → (code : ℕ) → Carried → Outcome
-byLocking number connection code carried = record {
+abbrev pub byLocking : (number : ℕ) → Connection → (code : ℕ) → Input → Outcome
+byLocking number connection code input = record {
   answer = Handled;
   connection = locked number;
-  actions = lockingSheet (ordersOf connection code carried 9) connection code;
+  actions = lockingSheet (ordersOf connection code input 9) connection code;
 }
 
 -- The events that are handled without a lock in some state.
 abbrev pub moving : List ℕ
 moving = 0 ∷ 2 ∷ 3 ∷ 4 ∷ 6 ∷ 7 ∷ 9 ∷ 11 ∷ 13 ∷ 14 ∷ 15 ∷ 16 ∷ 17 ∷ 18 ∷ 19 ∷ 21 ∷ 22 ∷ 23 ∷ []
+
+-- The tag of a handshake timeout; 0 for another kind.
+abbrev pub timeoutTag : EventKind → ℕ
+timeoutTag Plain = 0
+timeoutTag (Tagged tag) = 0
+timeoutTag (HandshakeTimeout tag timer) = tag
+timeoutTag (Bit bit) = 0
+timeoutTag (Token verdict expiry now) = 0

@@ -1,4 +1,4 @@
--- Document 01, "What the machine covers": the arguments of a call, and which of them each event carries.
+-- Document 01, "What the machine covers": the arguments of a call, and what the step reads of them.
 use Prim.Native.Nat.{ℕ}
 use mathlib.Core.Bool.{Bool, false, _&&_, cond}
 use mathlib.Core.List.{List, [], _∷_}
@@ -8,10 +8,10 @@ use Rattle.suites.specs.Answer.{Answer}
 use Rattle.suites.specs.Choice.{anyTooLong, choice}
 use Rattle.connection.specs.Limits.{Limits}
 use Rattle.table.specs.Sets.{isIn}
-use Rattle.connection.specs.Kind.{kindOf, tagIn, timerIn, bitIn, goodIn, secondsIn}
+use Rattle.connection.specs.Kind.{kindOf, fieldsOf}
 use Rattle.connection.specs.declared.Event.{Event}
 use Rattle.connection.specs.declared.reading.Suites.{Suites}
-use Rattle.connection.specs.declared.reading.Carried.{Carried}
+use Rattle.connection.specs.declared.reading.Input.{Input}
 
 -- One call: the event, its payload and the four suite lists. The record and the cache stand apart.
 pub record Call : Type 0 where
@@ -22,6 +22,7 @@ pub record Call : Type 0 where
   pub peerVerifiers : List ℕ
   pub ourProvers : List ℕ
 
+-- A call, by the arguments of `step`.
 abbrev pub callOf : Event → (payload ourVerifiers peerProvers peerVerifiers ourProvers : List ℕ) → Call
 callOf event payload ourVerifiers peerProvers peerVerifiers ourProvers = record {
   event = event;
@@ -56,26 +57,26 @@ suitesOf code ourVerifiers peerProvers peerVerifiers ourProvers =
     (chosenSuites (anyTooLong ourVerifiers peerProvers peerVerifiers ourProvers) (choice ourVerifiers peerProvers peerVerifiers ourProvers))
     noSuites
 
--- A payload's length; that of a payload that is too long counts as 0, since such a call is refused.
+-- The length of a payload. One that is too long counts as 0: its event is refused, or carries no payload and this is not used.
 abbrev pub shortLength : Limits → ℕ → ℕ
-shortLength limits length = cond (ltb (limits .payload) length) 0 length
+shortLength limit size = cond (ltb (limit .payload) size) 0 size
 
--- What an event carries, by its kind, the lengths of its payload and of the cache, and the suites.
-unfoldable pub carriedBy : Limits → Event → (payloadLength cacheLength : ℕ) → Suites → Carried
-carriedBy limits event payloadLength cacheLength suites = record {
-  tag = tagIn (kindOf event);
-  timer = timerIn (kindOf event);
-  bit = bitIn (kindOf event);
-  good = goodIn (kindOf event);
-  seconds = secondsIn (kindOf event);
+-- What the step reads, beside the code: the fields by the event's kind, the lengths of payload and cache, the suites.
+unfoldable pub inputBy : Limits → Event → (payloadLength cacheLength : ℕ) → Suites → Input
+inputBy limits event payloadLength cacheLength suites = record {
+  tag = fieldsOf (kindOf event) .tag;
+  timer = fieldsOf (kindOf event) .timer;
+  bit = fieldsOf (kindOf event) .bit;
+  good = fieldsOf (kindOf event) .isGood;
+  seconds = fieldsOf (kindOf event) .seconds;
   «payload_len» = shortLength limits payloadLength;
   «payload_too_long» = carriesPayload (event .code) && ltb (limits .payload) payloadLength;
   «cache_too_short» = ltb cacheLength (limits .payload);
   suites = suites;
 }
 
--- What a call's event carries.
-abbrev pub carried : Limits → Call → ℕ → Carried
-carried limits call cacheLength =
-    carriedBy limits (call .event) (length (call .payload)) cacheLength
+-- What the step reads of a call.
+abbrev pub inputOf : Limits → Call → ℕ → Input
+inputOf limits call cacheLength =
+    inputBy limits (call .event) (length (call .payload)) cacheLength
     (suitesOf (call .event .code) (call .ourVerifiers) (call .peerProvers) (call .peerVerifiers) (call .ourProvers))

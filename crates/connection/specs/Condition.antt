@@ -1,50 +1,55 @@
--- Document 01, "The record and its tags" and "The published table": what each event asks, and whether that holds.
+-- Document 01, "The record and its tags" and "The published table": the condition of each event, and the state that follows.
 use Prim.Native.Nat.{ℕ}
 use mathlib.Core.Bool.{Bool, true, not, _&&_, cond}
 use mathlib.Core.List.{List, [], _∷_}
 use lib.Dec.{eqb}
 use lib.ListN.{getD}
+use Rattle.table.specs.Table.{cell, settled}
 use Rattle.connection.specs.Timers.{Timer, H, HP, HV, DAT, RA, ACK, tagOf}
 use Rattle.connection.specs.declared.Connection.{Connection}
-use Rattle.connection.specs.declared.reading.Carried.{Carried}
+use Rattle.connection.specs.declared.reading.Input.{Input}
 
--- What an event asks: that its driver or timer is live, a good hello, a good token, the expected bit, the next-send bit of a waiting block, or nothing.
-pub data Question : Type 0 where
-  live : Timer → Question
-  goodHello goodToken expectedBit nextSendBit nothing : Question
+-- A condition: the event is live, the hello or the token is good, the bit is the expected one or the next-send bit of a waiting block; or there is none.
+pub data Condition : Type 0 where
+  live : Timer → Condition
+  goodHello goodToken expectedBit nextSendBit nothing : Condition
 
 -- The handshake timer of a name.
 abbrev pub named : ℕ → Timer
 named name = cond (eqb name 0) H (cond (eqb name 1) HP HV)
 
--- The question of each code from 0 to 23; a driver's liveness is its timer's.
-abbrev pub questions : ℕ → List Question
-questions name =
-    nothing ∷ nothing ∷ nothing ∷ nothing
-    ∷ live HV ∷ live HV ∷ live HV
-    ∷ live HP ∷ live HP ∷ live HP
-    ∷ nothing ∷ goodHello ∷ nothing ∷ goodToken
-    ∷ nothing ∷ nothing ∷ nothing ∷ nothing
-    ∷ expectedBit ∷ nextSendBit
-    ∷ live (named name) ∷ live DAT ∷ live RA ∷ live ACK
+-- The conditions of codes 0 to 23.
+abbrev pub conditions : (name : ℕ) → List Condition
+conditions name =
+    nothing ∷ nothing ∷ nothing ∷ nothing  -- 0 to 3
+    ∷ live HV ∷ live HV ∷ live HV  -- 4 to 6, from the verifier
+    ∷ live HP ∷ live HP ∷ live HP  -- 7 to 9, from the prover
+    ∷ nothing ∷ goodHello ∷ nothing ∷ goodToken  -- 10 to 13
+    ∷ nothing ∷ nothing ∷ nothing ∷ nothing  -- 14 to 17
+    ∷ expectedBit ∷ nextSendBit  -- 18, 19
+    ∷ live (named name) ∷ live DAT ∷ live RA ∷ live ACK  -- 20 to 23, from timers
     ∷ []
 
-abbrev pub asks : (code name : ℕ) → Question
-asks code name = getD (questions name) code nothing
+abbrev pub conditionOf : (code name : ℕ) → Condition
+conditionOf code name = getD (conditions name) code nothing
 
--- A tag is live if it isn't 0 and equals the record's.
+-- An event is live if its tag isn't 0 and equals the record's tag of that driver or timer.
 abbrev pub isLive : (tag own : ℕ) → Bool
 isLive tag own = not (eqb tag 0) && eqb tag own
 
--- The answer, of the record and what the event carries.
-abbrev pub answered : Connection → Carried → Question → Bool
-answered connection carried (live timer) = isLive (carried .tag) (tagOf connection timer)
-answered connection carried goodHello = carried .good && carried .suites .found
-answered connection carried goodToken = carried .good
-answered connection carried expectedBit = eqb (carried .bit) (connection .«expected_bit»)
-answered connection carried nextSendBit = eqb (connection .«awaiting_ack») 1 && eqb (carried .bit) (connection .«next_send_bit»)
-answered connection carried nothing = true
+-- Whether a condition holds for the record and the event.
+abbrev pub meets : Connection → Input → Condition → Bool
+meets connection input (live timer) = isLive (input .tag) (tagOf connection timer)
+meets connection input goodHello = input .good && input .suites .found
+meets connection input goodToken = input .good
+meets connection input expectedBit = eqb (input .bit) (connection .«expected_bit»)
+meets connection input nextSendBit = eqb (connection .«awaiting_ack») 1 && eqb (input .bit) (connection .«next_send_bit»)
+meets connection input nothing = true
 
--- Whether the event's condition holds.
-unfoldable pub holds : Connection → (code : ℕ) → Carried → Bool
-holds connection code carried = answered connection carried (asks code (carried .timer))
+unfoldable pub holds : Connection → (code : ℕ) → Input → Bool
+holds connection code input = meets connection input (conditionOf code (input .timer))
+
+-- The state that follows, or 11: the event is ignored.
+unfoldable pub nextState : Connection → (code : ℕ) → Input → ℕ
+nextState connection code input =
+    settled (connection .«awaiting_ack») (cell (connection .state) code (holds connection code input))

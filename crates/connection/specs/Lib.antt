@@ -10,4 +10,6 @@ pub mod Advance
 pub mod Actions
 pub mod Block
 pub mod Step
+pub mod Run
+pub mod Cases
 pub mod ByEvent

@@ -1,5 +1,5 @@
 -- Document 01, "Refusal numbers": the limits of a payload, of the cache and of the number of handled events.
--- Every definition that uses a limit takes it from a parameter of this type.
+-- Every definition that uses one of these takes it from a parameter of this type.
 use Prim.Native.Nat.{ℕ}
 
 pub record Limits : Type 0 where

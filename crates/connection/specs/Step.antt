@@ -1,12 +1,13 @@
--- Document 01, "Refusal numbers" and demands 1 and 2: what the host gets for a call.
+-- Document 01, "Refusal numbers" and "What the contracts must say": what the host gets for a call.
 use Prim.Native.Nat.{ℕ}
 use mathlib.Core.Bool.{cond}
 use mathlib.Core.List.{List}
 use lib.Dec.{eqb}
 use lib.ListN.{length}
+use Rattle.connection.specs.Condition.{nextState}
 use Rattle.connection.specs.Limits.{Limits}
-use Rattle.connection.specs.Call.{Call, carried}
-use Rattle.connection.specs.Refusal.{nextState, refusal}
+use Rattle.connection.specs.Call.{Call, inputOf}
+use Rattle.connection.specs.Refusal.{refusal}
 use Rattle.connection.specs.Advance.{advance}
 use Rattle.connection.specs.Actions.{noActions, actionsOf}
 use Rattle.connection.specs.Block.{stored, partOf}
@@ -14,33 +15,39 @@ use Rattle.connection.specs.declared.Answer.{Answer}
 use Rattle.connection.specs.declared.Answer.the-variants.{Handled, Ignored, Refused}
 use Rattle.connection.specs.declared.Connection.{Connection}
 use Rattle.connection.specs.declared.Outcome.{Outcome}
-use Rattle.connection.specs.declared.reading.Carried.{Carried}
+use Rattle.connection.specs.declared.reading.Input.{Input}
+
+-- The paper's number for each answer: that of the refusal, 0 where there is none.
+abbrev pub refusalNumber : Answer → ℕ
+refusalNumber Handled = 0
+refusalNumber Ignored = 0
+refusalNumber (Refused number) = number
 
 -- A refused or ignored call: the same record and the empty sheet.
 abbrev pub unchanged : Answer → Connection → Outcome
 unchanged answer connection = record { answer = answer; connection = connection; actions = noActions }
 
 -- A handled event that leads to a state.
-abbrev pub handledTo : (to : ℕ) → Connection → (code : ℕ) → Carried → Outcome
-handledTo to connection code carried = record {
+abbrev pub handledTo : (to : ℕ) → Connection → (code : ℕ) → Input → Outcome
+handledTo to connection code input = record {
   answer = Handled;
-  connection = advance connection code carried to;
-  actions = actionsOf connection code carried to;
+  connection = advance connection code input to;
+  actions = actionsOf connection code input to;
 }
 
 -- Refused with the refusal's number, else ignored where the table has 11, else handled.
-unfoldable pub decided : Limits → Connection → (code : ℕ) → Carried → Outcome
-decided limits connection code carried =
-    cond (eqb (refusal limits connection code carried) 0)
-    (cond (eqb (nextState connection code carried) 11)
+unfoldable pub decided : Limits → Connection → (code : ℕ) → Input → Outcome
+decided limits connection code input =
+    cond (eqb (refusal limits connection code input) 0)
+    (cond (eqb (nextState connection code input) 11)
     (unchanged Ignored connection)
-    (handledTo (nextState connection code carried) connection code carried))
-    (unchanged (Refused (refusal limits connection code carried)) connection)
+    (handledTo (nextState connection code input) connection code input))
+    (unchanged (Refused (refusal limits connection code input)) connection)
 
 -- The outcome of a call. Of the cache it reads the length alone.
 abbrev pub stepOf : Limits → Connection → Call → (cacheLength : ℕ) → Outcome
 stepOf limits connection call cacheLength =
-    decided limits connection (call .event .code) (carried limits call cacheLength)
+    decided limits connection (call .event .code) (inputOf limits call cacheLength)
 
 -- Event 2 alone writes the cache, and only if it is handled.
 abbrev pub cacheAfter : Answer → Call → List ℕ → List ℕ

@@ -7,6 +7,7 @@ use Rattle.connection.specs.Orders.{none, start, cancel}
 use Rattle.table.specs.Sets.{isIn}
 use Rattle.connection.specs.declared.Connection.{Connection}
 
+-- The timers. A driver goes by its timer: the prover by HP, the verifier by HV.
 pub data Timer : Type 0 where
   H HP HV DAT RA ACK : Timer
 
@@ -19,7 +20,7 @@ tagOf connection DAT = connection .dat
 tagOf connection RA = connection .ra
 tagOf connection ACK = connection .ack
 
--- The states in which a timer runs: its tag is on just there. RA may run on in 5 and 6 too (`raFree`).
+-- The states in which a timer runs: its tag is on just there. RA may run on in 5 and 6 too (`raMayRun`).
 abbrev pub runsIn : Timer → ℕ → Bool
 runsIn H = isIn (1 ∷ 5 ∷ 6 ∷ [])
 runsIn HP = isIn (2 ∷ 3 ∷ 5 ∷ [])
@@ -28,14 +29,15 @@ runsIn DAT = isIn (2 ∷ 3 ∷ 4 ∷ 7 ∷ 8 ∷ [])
 runsIn RA = isIn (3 ∷ 7 ∷ 8 ∷ [])
 runsIn ACK = isIn (8 ∷ [])
 
--- The states in which RA is on or off.
-abbrev pub raFree : ℕ → Bool
-raFree = isIn (5 ∷ 6 ∷ [])
+-- The states in which RA may be on or off.
+abbrev pub raMayRun : ℕ → Bool
+raMayRun = isIn (5 ∷ 6 ∷ [])
 
--- The events that start the prover, and those that start the verifier, unless they lock.
+-- The events that start the prover in the published table. Event 11 does so only if it does not lock.
 abbrev pub startsProver : ℕ → Bool
 startsProver = isIn (11 ∷ 14 ∷ 17 ∷ [])
 
+-- Those that start the verifier. Events 11 and 13 do so only if they do not lock.
 abbrev pub startsVerifier : ℕ → Bool
 startsVerifier = isIn (3 ∷ 11 ∷ 13 ∷ 22 ∷ [])
 
@@ -57,7 +59,7 @@ isRa DAT = false
 isRa RA = true
 isRa ACK = false
 
--- RA starts at event 4.
+-- RA starts at event 4; no locked connection starts a timer.
 abbrev pub raStarts : (code to : ℕ) → Bool
 raStarts code to = not (eqb to 9) && eqb code 4
 
@@ -65,12 +67,12 @@ raStarts code to = not (eqb to 9) && eqb code 4
 abbrev pub raEnds : (code from to : ℕ) → Bool
 raEnds code from to = eqb to 9 || startsVerifier code || (eqb code 21 && isIn (7 ∷ 8 ∷ []) from)
 
--- A timer starts on coming into its states, or again within them.
+-- A timer starts on coming into its states, or again within them. None of them is state 9.
 abbrev pub starts : Timer → (code from to : ℕ) → Bool
 starts timer code from to =
     cond (isRa timer) (raStarts code to) (runsIn timer to && (not (runsIn timer from) || startsAgain timer code))
 
--- A timer ends on leaving its states.
+-- A timer ends, or is off already, where the next state is none of its states.
 abbrev pub ends : Timer → (code from to : ℕ) → Bool
 ends timer code from to = cond (isRa timer) (raEnds code from to) (not (runsIn timer to))
 
@@ -84,9 +86,9 @@ reports RA code name = eqb code 22
 reports ACK code name = eqb code 23
 
 -- The tag after an event: what starts carries the new number, what ends has 0.
-abbrev pub tagAfter : (starts ends : Bool) (number tag : ℕ) → ℕ
-tagAfter starts ends number tag = cond starts number (cond ends 0 tag)
+abbrev pub tagAfter : (started ended : Bool) (number tag : ℕ) → ℕ
+tagAfter started ended number tag = cond started number (cond ended 0 tag)
 
 -- The order to a timer: starting what runs is one start; the timer that reports, or one with tag 0, gets no cancel.
-abbrev pub timerOrder : (starts ends reports : Bool) (tag : ℕ) → ℕ
-timerOrder starts ends reports tag = cond starts start (cond (ends && not reports && not (eqb tag 0)) cancel none)
+abbrev pub timerOrder : (started ended reported : Bool) (tag : ℕ) → ℕ
+timerOrder started ended reported tag = cond started start (cond (ended && not reported && not (eqb tag 0)) cancel none)

@@ -5,7 +5,7 @@ use mathlib.Core.List.{List, [], _∷_}
 use lib.Dec.{eqb, leb}
 use Rattle.connection.specs.Limits.{Limits}
 use Rattle.table.specs.Sets.{isIn}
-use Rattle.connection.specs.Timers.{Timer, H, HP, HV, DAT, RA, ACK, tagOf, runsIn, raFree}
+use Rattle.connection.specs.Timers.{Timer, H, HP, HV, DAT, RA, ACK, tagOf, runsIn, raMayRun}
 use Rattle.connection.specs.declared.Connection.{Connection}
 
 -- State 0, all else 0.
@@ -63,7 +63,7 @@ onJustIn timer state tag = cond (runsIn timer state) (not (eqb tag 0)) (eqb tag 
 
 -- RA is on or off in 5 and 6.
 abbrev pub raFits : (state tag : ℕ) → Bool
-raFits state tag = cond (raFree state) true (onJustIn RA state tag)
+raFits state tag = cond (raMayRun state) true (onJustIn RA state tag)
 
 -- What a record has to be in its state.
 abbrev pub fitsState : (state : ℕ) → Connection → Bool

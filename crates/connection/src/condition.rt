@@ -1,9 +1,9 @@
-// Whether the condition of an event holds.
+// The conditions of the events.
 ghost use mathlib.Core.Path.{_≡_};
-ghost use Rattle.connection.specs.Condition.{isLive, named, holds};
+ghost use Rattle.connection.specs.Condition as spec;
 ghost use Rattle.connection.specs.Timers.{tagOf};
 use crate::Connection;
-use crate::reading::Carried;
+use crate::reading::Input;
 use table::codes::ACK_TIMEOUT;
 use table::codes::DAT_TIMEOUT;
 use table::codes::HANDSHAKE_TIMEOUT;
@@ -19,14 +19,14 @@ use table::codes::SC_HELLO;
 
 // A tag is live if it isn't 0 and equals the record's tag of its driver or timer.
 fn live(tag: u32, own: u32) -> bool
-    ensures { λ r. ⌜ r ≡ isLive tag own ⌝ }
+    ensures { λ r. ⌜ r ≡ spec.isLive tag own ⌝ }
 {
     (tag != 0) & (tag == own)
 }
 
 // The record's tag of a handshake timer: 0 H, 1 HP, 2 HV.
 fn handshake_tag(connection: Connection, timer: u32) -> u32
-    ensures { λ r. ⌜ r ≡ tagOf connection (named timer) ⌝ }
+    ensures { λ r. ⌜ r ≡ tagOf connection (spec.named timer) ⌝ }
 {
     match timer {
         0 => connection.h,
@@ -35,20 +35,21 @@ fn handshake_tag(connection: Connection, timer: u32) -> u32
     }
 }
 
-pub(crate) fn condition(connection: Connection, code: u32, carried: Carried) -> bool
-    ensures { λ r. ⌜ r ≡ holds connection code carried ⌝ }
+// Whether the condition of an event holds.
+pub(crate) fn holds(connection: Connection, code: u32, input: Input) -> bool
+    ensures { λ r. ⌜ r ≡ spec.holds connection code input ⌝ }
 {
     match code {
-        RA_VERIFIER_OK..=RA_VERIFIER_MSG => live(carried.tag, connection.verifier),
-        RA_PROVER_OK..=RA_PROVER_MSG => live(carried.tag, connection.prover),
-        SC_HELLO => carried.good & carried.suites.found,
-        SC_DAT => carried.good,
-        SC_DATA => carried.bit == connection.expected_bit,
-        SC_ACK => (connection.awaiting_ack == 1) & (carried.bit == connection.next_send_bit),
-        HANDSHAKE_TIMEOUT => live(carried.tag, handshake_tag(connection, carried.timer)),
-        DAT_TIMEOUT => live(carried.tag, connection.dat),
-        RA_TIMEOUT => live(carried.tag, connection.ra),
-        ACK_TIMEOUT => live(carried.tag, connection.ack),
+        RA_VERIFIER_OK..=RA_VERIFIER_MSG => live(input.tag, connection.verifier),
+        RA_PROVER_OK..=RA_PROVER_MSG => live(input.tag, connection.prover),
+        SC_HELLO => input.good & input.suites.found,
+        SC_DAT => input.good,
+        SC_DATA => input.bit == connection.expected_bit,
+        SC_ACK => (connection.awaiting_ack == 1) & (input.bit == connection.next_send_bit),
+        HANDSHAKE_TIMEOUT => live(input.tag, handshake_tag(connection, input.timer)),
+        DAT_TIMEOUT => live(input.tag, connection.dat),
+        RA_TIMEOUT => live(input.tag, connection.ra),
+        ACK_TIMEOUT => live(input.tag, connection.ack),
         _ => true,
     }
 }

@@ -11,11 +11,11 @@ ghost use Rattle.connection.specs.WellFormed.{wellFormed};
 use crate::Answer;
 use crate::Connection;
 use crate::Outcome;
-use crate::condition::condition;
+use crate::condition::holds;
 use crate::locking::lock;
 use crate::moves;
 use crate::moves::NO_ACTIONS;
-use crate::reading::Carried;
+use crate::reading::Input;
 use crate::well_formed::well_formed;
 use table::IGNORED;
 use table::codes;
@@ -29,14 +29,14 @@ const MAX_BIT: u32 = 1;
 const MAX_HANDLED: u32 = 4_294_967_295;
 
 // The answer, the record and the actions of a call.
-pub(crate) fn decide(connection: Connection, code: u32, carried: Carried) -> Outcome
-    ensures { λ r. ⌜ r ≡ decided limits connection code carried ⌝ }
+pub(crate) fn decide(connection: Connection, code: u32, input: Input) -> Outcome
+    ensures { λ r. ⌜ r ≡ decided limits connection code input ⌝ }
 {
-    let fault = lowest_fault(connection, code, carried);
+    let fault = lowest_fault(connection, code, input);
     if fault != 0 {
         return unmoved(Answer::Refused(fault), connection);
     }
-    let held = condition(connection, code, carried);
+    let held = holds(connection, code, input);
     let to = next_state(connection.state, connection.awaiting_ack, code, held);
     if to == IGNORED {
         return unmoved(Answer::Ignored, connection);
@@ -47,9 +47,9 @@ pub(crate) fn decide(connection: Connection, code: u32, carried: Carried) -> Out
     }
     let number = handled + 1;
     if to == states::CLOSED_LOCKED {
-        return lock(connection, code, carried, number);
+        return lock(connection, code, input, number);
     }
-    move_on(connection, code, carried, to, number)
+    move_on(connection, code, input, to, number)
 }
 
 // Refused or ignored: the same record, no actions.
@@ -64,25 +64,25 @@ fn unmoved(answer: Answer, connection: Connection) -> Outcome
 }
 
 // The lowest refusal from 1 to 7 whose fault is present, 0 if none is.
-fn lowest_fault(connection: Connection, code: u32, carried: Carried) -> u32
-    ensures { λ r. ⌜ r ≡ firstFault 1 (argumentFaults code carried ++ (not (wellFormed limits connection) ∷ [])) ⌝ }
+fn lowest_fault(connection: Connection, code: u32, input: Input) -> u32
+    ensures { λ r. ⌜ r ≡ firstFault 1 (argumentFaults code input ++ (not (wellFormed limits connection) ∷ [])) ⌝ }
 {
     if code > codes::ACK_TIMEOUT {
         return 1;
     }
-    if carried.timer > MAX_TIMER {
+    if input.timer > MAX_TIMER {
         return 2;
     }
-    if carried.bit > MAX_BIT {
+    if input.bit > MAX_BIT {
         return 3;
     }
-    if carried.payload_too_long {
+    if input.payload_too_long {
         return 4;
     }
-    if carried.cache_too_short {
+    if input.cache_too_short {
         return 5;
     }
-    if carried.suites.too_long {
+    if input.suites.too_long {
         return 6;
     }
     if !well_formed(connection) {
@@ -92,32 +92,32 @@ fn lowest_fault(connection: Connection, code: u32, carried: Carried) -> u32
 }
 
 // A handled event that doesn't lock.
-fn move_on(connection: Connection, code: u32, carried: Carried, to: u32, number: u32) -> Outcome
+fn move_on(connection: Connection, code: u32, input: Input, to: u32, number: u32) -> Outcome
     requires { ⌜ OneOf moving code ⌝ }
-    ensures { λ r. ⌜ r ≡ byEvent number connection code carried to ⌝ }
+    ensures { λ r. ⌜ r ≡ byEvent number connection code input to ⌝ }
 {
     match code {
-        codes::UPPER_START_HANDSHAKE => moves::start_handshake(connection, carried, to, number),
-        codes::UPPER_SEND_DATA => moves::send_data(connection, carried, to, number),
+        codes::UPPER_START_HANDSHAKE => moves::start_handshake(connection, input, to, number),
+        codes::UPPER_SEND_DATA => moves::send_data(connection, input, to, number),
         codes::UPPER_RE_RA | codes::RA_TIMEOUT => {
-            moves::verify_again(connection, code, carried, to, number)
+            moves::verify_again(connection, code, input, to, number)
         }
-        codes::RA_VERIFIER_OK => moves::verifier_ok(connection, carried, to, number),
-        codes::RA_PROVER_OK => moves::prover_ok(connection, carried, to, number),
+        codes::RA_VERIFIER_OK => moves::verifier_ok(connection, input, to, number),
+        codes::RA_PROVER_OK => moves::prover_ok(connection, input, to, number),
         codes::RA_VERIFIER_MSG | codes::RA_PROVER_MSG => {
-            moves::send_report(connection, code, carried, to, number)
+            moves::send_report(connection, code, input, to, number)
         }
-        codes::SC_HELLO => moves::open_connection(connection, carried, to, number),
-        codes::SC_DAT => moves::renew_token(connection, carried, to, number),
+        codes::SC_HELLO => moves::open_connection(connection, input, to, number),
+        codes::SC_DAT => moves::renew_token(connection, input, to, number),
         codes::SC_DAT_EXPIRED | codes::SC_RE_RA => {
-            moves::prove_again(connection, code, carried, to, number)
+            moves::prove_again(connection, code, input, to, number)
         }
-        codes::SC_RA_PROVER => moves::pass_on(connection, code, carried, to, number),
-        codes::SC_RA_VERIFIER => moves::pass_on(connection, code, carried, to, number),
-        codes::SC_DATA => moves::receive_data(connection, carried, to, number),
-        codes::SC_ACK => moves::receive_ack(connection, carried, to, number),
-        codes::DAT_TIMEOUT => moves::expire_token(connection, carried, to, number),
+        codes::SC_RA_PROVER => moves::pass_on(connection, code, input, to, number),
+        codes::SC_RA_VERIFIER => moves::pass_on(connection, code, input, to, number),
+        codes::SC_DATA => moves::receive_data(connection, input, to, number),
+        codes::SC_ACK => moves::receive_ack(connection, input, to, number),
+        codes::DAT_TIMEOUT => moves::expire_token(connection, input, to, number),
         // ACK_TIMEOUT: no other event moves on.
-        _ => moves::repeat_data(connection, carried, to, number),
+        _ => moves::repeat_data(connection, input, to, number),
     }
 }

@@ -7,7 +7,7 @@ ghost use Rattle.connection.specs.Limits.{limits};
 ghost use Rattle.connection.specs.Block.{partOf};
 ghost use Rattle.connection.specs.Call.{callOf};
 ghost use Rattle.connection.specs.WellFormed as spec;
-ghost use Rattle.connection.specs.Step.{resultOf};
+ghost use Rattle.connection.specs.Step.{refusalNumber, resultOf};
 
 mod block;
 mod condition;
@@ -81,8 +81,8 @@ pub struct Actions {
     // The chosen suites, where the connection opens.
     pub verifier_suite: u32,
     pub prover_suite: u32,
-    // The slice of the payload, and its length.
-    pub payload: u32,
+    // The slice that the payload is a part of, and its length.
+    pub payload_slice: u32,
     pub payload_len: u32,
 }
 
@@ -90,6 +90,16 @@ pub enum Answer {
     Handled,
     Ignored,
     Refused(u32),
+}
+
+// The number of a refusal, 0 for an answer that is none.
+pub fn refusal_number(answer: Answer) -> u32
+    ensures { λ r. ⌜ r ≡ refusalNumber answer ⌝ }
+{
+    let Answer::Refused(number) = answer else {
+        return 0;
+    };
+    number
 }
 
 pub struct Outcome {
@@ -140,8 +150,8 @@ pub fn step(
         peer_verifiers,
         our_provers,
     );
-    let carried = read(event, payload.len(), cache.len(), suites);
-    let outcome = decide(connection, code, carried);
+    let input = read(event, payload.len(), cache.len(), suites);
+    let outcome = decide(connection, code, input);
     let answer = outcome.answer;
     let Answer::Handled = answer else {
         return outcome;
@@ -156,7 +166,7 @@ pub fn step(
 pub fn part<'a>(actions: Actions, payload: &'a [u8], cache: &'a [u8]) -> &'a [u8]
     ensures { λ r. ⌜ now r ≡ partOf actions (now (payload .entry)) (now (cache .entry)) ⌝ }
 {
-    let slice = actions.payload;
+    let slice = actions.payload_slice;
     let len = actions.payload_len as usize;
     match slice {
         orders::OF_EVENT => front(payload, len),

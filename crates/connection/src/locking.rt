@@ -11,7 +11,7 @@ use crate::Connection;
 use crate::Outcome;
 use crate::moves::NO_ACTIONS;
 use crate::orders;
-use crate::reading::Carried;
+use crate::reading::Input;
 use table::codes;
 use table::states;
 
@@ -69,8 +69,8 @@ fn locked_record(number: u32) -> Connection
 }
 
 // Stops every driver and cancels every timer that runs.
-pub(crate) fn lock(connection: Connection, code: u32, carried: Carried, number: u32) -> Outcome
-    ensures { λ r. ⌜ r ≡ byLocking number connection code carried ⌝ }
+pub(crate) fn lock(connection: Connection, code: u32, input: Input, number: u32) -> Outcome
+    ensures { λ r. ⌜ r ≡ byLocking number connection code input ⌝ }
 {
     let timeout = code == codes::HANDSHAKE_TIMEOUT;
     let proved = (code == codes::RA_PROVER_OK) | (code == codes::RA_PROVER_FAILED);
@@ -79,9 +79,9 @@ pub(crate) fn lock(connection: Connection, code: u32, carried: Carried, number: 
     actions.message = closing_message(code);
     actions.prover = stop(proved, connection.prover);
     actions.verifier = stop(verified, connection.verifier);
-    actions.h = cancel(timeout & (carried.timer == 0), connection.h);
-    actions.hp = cancel(timeout & (carried.timer == 1), connection.prover);
-    actions.hv = cancel(timeout & (carried.timer == 2), connection.verifier);
+    actions.h = cancel(timeout & (input.timer == 0), connection.h);
+    actions.hp = cancel(timeout & (input.timer == 1), connection.prover);
+    actions.hv = cancel(timeout & (input.timer == 2), connection.verifier);
     actions.dat = cancel(code == codes::DAT_TIMEOUT, connection.dat);
     actions.ra = cancel(code == codes::RA_TIMEOUT, connection.ra);
     actions.ack = cancel(code == codes::ACK_TIMEOUT, connection.ack);

@@ -11,7 +11,7 @@ use crate::Answer;
 use crate::Connection;
 use crate::Outcome;
 use crate::orders;
-use crate::reading::Carried;
+use crate::reading::Input;
 use table::codes;
 use table::states;
 
@@ -31,7 +31,7 @@ pub(crate) const NO_ACTIONS: Actions = Actions {
     deliver: false,
     verifier_suite: 0,
     prover_suite: 0,
-    payload: orders::NONE,
+    payload_slice: orders::NONE,
     payload_len: 0,
 };
 
@@ -56,13 +56,8 @@ fn end(tag: u32) -> u32
 }
 
 // UPPER_START_HANDSHAKE: greets the peer.
-pub(crate) fn start_handshake(
-    connection: Connection,
-    carried: Carried,
-    to: u32,
-    number: u32,
-) -> Outcome
-    ensures { λ r. ⌜ r ≡ byEvent number connection 0 carried to ⌝ }
+pub(crate) fn start_handshake(connection: Connection, input: Input, to: u32, number: u32) -> Outcome
+    ensures { λ r. ⌜ r ≡ byEvent number connection 0 input to ⌝ }
 {
     let mut after = connection;
     after.state = to;
@@ -79,13 +74,8 @@ pub(crate) fn start_handshake(
 }
 
 // A good SC_HELLO: opens the connection, with both drivers at work.
-pub(crate) fn open_connection(
-    connection: Connection,
-    carried: Carried,
-    to: u32,
-    number: u32,
-) -> Outcome
-    ensures { λ r. ⌜ r ≡ byEvent number connection 11 carried to ⌝ }
+pub(crate) fn open_connection(connection: Connection, input: Input, to: u32, number: u32) -> Outcome
+    ensures { λ r. ⌜ r ≡ byEvent number connection 11 input to ⌝ }
 {
     let mut after = connection;
     after.state = to;
@@ -101,9 +91,9 @@ pub(crate) fn open_connection(
     actions.hp = orders::START;
     actions.hv = orders::START;
     actions.dat = orders::START;
-    actions.dat_seconds = carried.seconds;
-    actions.verifier_suite = carried.suites.verifier;
-    actions.prover_suite = carried.suites.prover;
+    actions.dat_seconds = input.seconds;
+    actions.verifier_suite = input.suites.verifier;
+    actions.prover_suite = input.suites.prover;
     Outcome {
         answer: Answer::Handled,
         connection: after,
@@ -112,8 +102,8 @@ pub(crate) fn open_connection(
 }
 
 // RA_VERIFIER_OK: the peer is attested until RA runs out.
-pub(crate) fn verifier_ok(connection: Connection, carried: Carried, to: u32, number: u32) -> Outcome
-    ensures { λ r. ⌜ r ≡ byEvent number connection 4 carried to ⌝ }
+pub(crate) fn verifier_ok(connection: Connection, input: Input, to: u32, number: u32) -> Outcome
+    ensures { λ r. ⌜ r ≡ byEvent number connection 4 input to ⌝ }
 {
     let waits = to == states::WAIT_FOR_ACK;
     let mut after = connection;
@@ -134,8 +124,8 @@ pub(crate) fn verifier_ok(connection: Connection, carried: Carried, to: u32, num
 }
 
 // RA_PROVER_OK: we are attested to the peer.
-pub(crate) fn prover_ok(connection: Connection, carried: Carried, to: u32, number: u32) -> Outcome
-    ensures { λ r. ⌜ r ≡ byEvent number connection 7 carried to ⌝ }
+pub(crate) fn prover_ok(connection: Connection, input: Input, to: u32, number: u32) -> Outcome
+    ensures { λ r. ⌜ r ≡ byEvent number connection 7 input to ⌝ }
 {
     let waits = to == states::WAIT_FOR_ACK;
     let mut after = connection;
@@ -157,12 +147,12 @@ pub(crate) fn prover_ok(connection: Connection, carried: Carried, to: u32, numbe
 pub(crate) fn send_report(
     connection: Connection,
     code: u32,
-    carried: Carried,
+    input: Input,
     to: u32,
     number: u32,
 ) -> Outcome
     requires { ⌜ OneOf (6 ∷ 9 ∷ []) code ⌝ }
-    ensures { λ r. ⌜ r ≡ byEvent number connection code carried to ⌝ }
+    ensures { λ r. ⌜ r ≡ byEvent number connection code input to ⌝ }
 {
     let verifier = code == codes::RA_VERIFIER_MSG;
     let mut after = connection;
@@ -170,8 +160,8 @@ pub(crate) fn send_report(
     after.handled = number;
     let mut actions = NO_ACTIONS;
     actions.message = pick(verifier, orders::RA_VERIFIER, orders::RA_PROVER);
-    actions.payload = orders::OF_EVENT;
-    actions.payload_len = carried.payload_len;
+    actions.payload_slice = orders::OF_EVENT;
+    actions.payload_len = input.payload_len;
     Outcome {
         answer: Answer::Handled,
         connection: after,
@@ -183,12 +173,12 @@ pub(crate) fn send_report(
 pub(crate) fn pass_on(
     connection: Connection,
     code: u32,
-    carried: Carried,
+    input: Input,
     to: u32,
     number: u32,
 ) -> Outcome
     requires { ⌜ OneOf (15 ∷ 16 ∷ []) code ⌝ }
-    ensures { λ r. ⌜ r ≡ byEvent number connection code carried to ⌝ }
+    ensures { λ r. ⌜ r ≡ byEvent number connection code input to ⌝ }
 {
     let to_verifier = code == codes::SC_RA_PROVER;
     let mut after = connection;
@@ -197,8 +187,8 @@ pub(crate) fn pass_on(
     let mut actions = NO_ACTIONS;
     actions.prover = pick(to_verifier, orders::NONE, orders::FORWARD);
     actions.verifier = pick(to_verifier, orders::FORWARD, orders::NONE);
-    actions.payload = orders::OF_EVENT;
-    actions.payload_len = carried.payload_len;
+    actions.payload_slice = orders::OF_EVENT;
+    actions.payload_len = input.payload_len;
     Outcome {
         answer: Answer::Handled,
         connection: after,
@@ -210,12 +200,12 @@ pub(crate) fn pass_on(
 pub(crate) fn prove_again(
     connection: Connection,
     code: u32,
-    carried: Carried,
+    input: Input,
     to: u32,
     number: u32,
 ) -> Outcome
     requires { ⌜ OneOf (14 ∷ 17 ∷ []) code ⌝ }
-    ensures { λ r. ⌜ r ≡ byEvent number connection code carried to ⌝ }
+    ensures { λ r. ⌜ r ≡ byEvent number connection code input to ⌝ }
 {
     let mut after = connection;
     after.state = to;
@@ -235,8 +225,8 @@ pub(crate) fn prove_again(
 }
 
 // A good SC_DAT: the token is current again, and the peer has to prove itself.
-pub(crate) fn renew_token(connection: Connection, carried: Carried, to: u32, number: u32) -> Outcome
-    ensures { λ r. ⌜ r ≡ byEvent number connection 13 carried to ⌝ }
+pub(crate) fn renew_token(connection: Connection, input: Input, to: u32, number: u32) -> Outcome
+    ensures { λ r. ⌜ r ≡ byEvent number connection 13 input to ⌝ }
 {
     let mut after = connection;
     after.state = to;
@@ -251,7 +241,7 @@ pub(crate) fn renew_token(connection: Connection, carried: Carried, to: u32, num
     actions.hv = orders::START;
     actions.dat = orders::START;
     actions.ra = end(connection.ra);
-    actions.dat_seconds = carried.seconds;
+    actions.dat_seconds = input.seconds;
     Outcome {
         answer: Answer::Handled,
         connection: after,
@@ -263,12 +253,12 @@ pub(crate) fn renew_token(connection: Connection, carried: Carried, to: u32, num
 pub(crate) fn verify_again(
     connection: Connection,
     code: u32,
-    carried: Carried,
+    input: Input,
     to: u32,
     number: u32,
 ) -> Outcome
     requires { ⌜ OneOf (3 ∷ 22 ∷ []) code ⌝ }
-    ensures { λ r. ⌜ r ≡ byEvent number connection code carried to ⌝ }
+    ensures { λ r. ⌜ r ≡ byEvent number connection code input to ⌝ }
 {
     let mut after = connection;
     after.state = to;
@@ -291,13 +281,8 @@ pub(crate) fn verify_again(
 
 // DAT_TIMEOUT: the peer has to send a fresh token, and is then verified anew. RA, if it runs in
 // WAIT_FOR_RA_PROVER, runs on.
-pub(crate) fn expire_token(
-    connection: Connection,
-    carried: Carried,
-    to: u32,
-    number: u32,
-) -> Outcome
-    ensures { λ r. ⌜ r ≡ byEvent number connection 21 carried to ⌝ }
+pub(crate) fn expire_token(connection: Connection, input: Input, to: u32, number: u32) -> Outcome
+    ensures { λ r. ⌜ r ≡ byEvent number connection 21 input to ⌝ }
 {
     let ready = (connection.state == states::ESTABLISHED)
         | (connection.state == states::WAIT_FOR_ACK);
@@ -324,21 +309,21 @@ pub(crate) fn expire_token(
 }
 
 // UPPER_SEND_DATA: the block is cached and sent.
-pub(crate) fn send_data(connection: Connection, carried: Carried, to: u32, number: u32) -> Outcome
-    ensures { λ r. ⌜ r ≡ byEvent number connection 2 carried to ⌝ }
+pub(crate) fn send_data(connection: Connection, input: Input, to: u32, number: u32) -> Outcome
+    ensures { λ r. ⌜ r ≡ byEvent number connection 2 input to ⌝ }
 {
     let mut after = connection;
     after.state = to;
     after.awaiting_ack = 1;
-    after.cached_len = carried.payload_len;
+    after.cached_len = input.payload_len;
     after.handled = number;
     after.ack = number;
     let mut actions = NO_ACTIONS;
     actions.message = orders::DATA;
     actions.ack = orders::START;
     actions.bit = connection.next_send_bit;
-    actions.payload = orders::OF_CACHE;
-    actions.payload_len = carried.payload_len;
+    actions.payload_slice = orders::OF_CACHE;
+    actions.payload_len = input.payload_len;
     Outcome {
         answer: Answer::Handled,
         connection: after,
@@ -347,13 +332,8 @@ pub(crate) fn send_data(connection: Connection, carried: Carried, to: u32, numbe
 }
 
 // SC_DATA with the expected bit: the block is acknowledged and goes up.
-pub(crate) fn receive_data(
-    connection: Connection,
-    carried: Carried,
-    to: u32,
-    number: u32,
-) -> Outcome
-    ensures { λ r. ⌜ r ≡ byEvent number connection 18 carried to ⌝ }
+pub(crate) fn receive_data(connection: Connection, input: Input, to: u32, number: u32) -> Outcome
+    ensures { λ r. ⌜ r ≡ byEvent number connection 18 input to ⌝ }
 {
     let mut after = connection;
     after.state = to;
@@ -361,10 +341,10 @@ pub(crate) fn receive_data(
     after.handled = number;
     let mut actions = NO_ACTIONS;
     actions.message = orders::ACK;
-    actions.bit = carried.bit;
+    actions.bit = input.bit;
     actions.deliver = true;
-    actions.payload = orders::OF_EVENT;
-    actions.payload_len = carried.payload_len;
+    actions.payload_slice = orders::OF_EVENT;
+    actions.payload_len = input.payload_len;
     Outcome {
         answer: Answer::Handled,
         connection: after,
@@ -373,8 +353,8 @@ pub(crate) fn receive_data(
 }
 
 // SC_ACK of the waiting block.
-pub(crate) fn receive_ack(connection: Connection, carried: Carried, to: u32, number: u32) -> Outcome
-    ensures { λ r. ⌜ r ≡ byEvent number connection 19 carried to ⌝ }
+pub(crate) fn receive_ack(connection: Connection, input: Input, to: u32, number: u32) -> Outcome
+    ensures { λ r. ⌜ r ≡ byEvent number connection 19 input to ⌝ }
 {
     let mut after = connection;
     after.state = to;
@@ -393,8 +373,8 @@ pub(crate) fn receive_ack(connection: Connection, carried: Carried, to: u32, num
 }
 
 // ACK_TIMEOUT: the cached block is sent again.
-pub(crate) fn repeat_data(connection: Connection, carried: Carried, to: u32, number: u32) -> Outcome
-    ensures { λ r. ⌜ r ≡ byEvent number connection 23 carried to ⌝ }
+pub(crate) fn repeat_data(connection: Connection, input: Input, to: u32, number: u32) -> Outcome
+    ensures { λ r. ⌜ r ≡ byEvent number connection 23 input to ⌝ }
 {
     let mut after = connection;
     after.state = to;
@@ -404,7 +384,7 @@ pub(crate) fn repeat_data(connection: Connection, carried: Carried, to: u32, num
     actions.message = orders::DATA;
     actions.ack = orders::START;
     actions.bit = connection.next_send_bit;
-    actions.payload = orders::OF_CACHE;
+    actions.payload_slice = orders::OF_CACHE;
     actions.payload_len = connection.cached_len;
     Outcome {
         answer: Answer::Handled,

@@ -2,8 +2,9 @@
 // and a field is read only from the kind that carries it.
 ghost use mathlib.Core.Path.{_≡_};
 ghost use Rattle.connection.specs.Limits.{limits};
-ghost use Rattle.connection.specs.Kind.{kindOf, tagIn, timeoutTagIn, timerIn, bitIn, secondsIn};
-ghost use Rattle.connection.specs.Call.{chosenSuites, suitesOf, carriesPayload, shortLength, carriedBy};
+ghost use Rattle.connection.specs.Kind.{kindOf, fieldsOf};
+ghost use Rattle.connection.specs.Call.{chosenSuites, suitesOf, carriesPayload, shortLength, inputBy};
+ghost use Rattle.connection.specs.ByEvent.{timeoutTag};
 ghost use Rattle.suites.specs.Numbers.{foundOf, answerOf};
 use crate::Event;
 use suites::Choice;
@@ -60,7 +61,7 @@ const NO_SUITES: Suites = Suites {
 };
 
 // What an event carries, as the step reads it.
-pub struct Carried {
+pub struct Input {
     pub tag: u32,
     pub timer: u32,
     pub bit: u32,
@@ -96,7 +97,7 @@ fn kind_of(event: Event) -> EventKind
 
 // The tag of a driver's report or a timeout.
 fn tag_in(kind: EventKind) -> u32
-    ensures { λ r. ⌜ r ≡ tagIn kind ⌝ }
+    ensures { λ r. ⌜ r ≡ fieldsOf kind .tag ⌝ }
 {
     let EventKind::Tagged(tag) = kind else {
         return timeout_tag_in(kind);
@@ -105,7 +106,7 @@ fn tag_in(kind: EventKind) -> u32
 }
 
 fn timeout_tag_in(kind: EventKind) -> u32
-    ensures { λ r. ⌜ r ≡ timeoutTagIn kind ⌝ }
+    ensures { λ r. ⌜ r ≡ timeoutTag kind ⌝ }
 {
     let EventKind::HandshakeTimeout { tag, timer: _ } = kind else {
         return 0;
@@ -115,7 +116,7 @@ fn timeout_tag_in(kind: EventKind) -> u32
 
 // The handshake timer that a timeout names.
 fn timer_in(kind: EventKind) -> u32
-    ensures { λ r. ⌜ r ≡ timerIn kind ⌝ }
+    ensures { λ r. ⌜ r ≡ fieldsOf kind .timer ⌝ }
 {
     let EventKind::HandshakeTimeout { tag: _, timer } = kind else {
         return 0;
@@ -125,7 +126,7 @@ fn timer_in(kind: EventKind) -> u32
 
 // The bit of a DATA or ACK.
 fn bit_in(kind: EventKind) -> u32
-    ensures { λ r. ⌜ r ≡ bitIn kind ⌝ }
+    ensures { λ r. ⌜ r ≡ fieldsOf kind .bit ⌝ }
 {
     let EventKind::Bit(bit) = kind else {
         return 0;
@@ -135,7 +136,7 @@ fn bit_in(kind: EventKind) -> u32
 
 // The seconds left of a good token.
 fn seconds_in(kind: EventKind) -> u32
-    ensures { λ r. ⌜ r ≡ secondsIn kind ⌝ }
+    ensures { λ r. ⌜ r ≡ fieldsOf kind .seconds ⌝ }
 {
     let EventKind::Token {
         verdict,
@@ -221,12 +222,12 @@ fn short_len(len: usize) -> u32
 }
 
 // What an event carries.
-pub(crate) fn read(event: Event, payload_len: usize, cache_len: usize, suites: Suites) -> Carried
-    ensures { λ r. ⌜ r ≡ carriedBy limits event «payload_len» «cache_len» suites ⌝ }
+pub(crate) fn read(event: Event, payload_len: usize, cache_len: usize, suites: Suites) -> Input
+    ensures { λ r. ⌜ r ≡ inputBy limits event «payload_len» «cache_len» suites ⌝ }
 {
     let kind = kind_of(event);
     let seconds = seconds_in(kind);
-    Carried {
+    Input {
         tag: tag_in(kind),
         timer: timer_in(kind),
         bit: bit_in(kind),

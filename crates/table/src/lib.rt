@@ -32,14 +32,14 @@ fn follow(state: u32, code: u32, held: bool) -> u32
     ensures { λ r. ⌜ r ≡ cell state code held ⌝ }
 {
     if held {
-        met(state, code)
+        when_held(state, code)
     } else {
-        unmet(state, code)
+        when_not(state, code)
     }
 }
 
 // Where the condition doesn't hold: a hello that fails and a bad token lock.
-fn unmet(state: u32, code: u32) -> u32
+fn when_not(state: u32, code: u32) -> u32
     ensures { λ r. ⌜ r ≡ cell state code false ⌝ }
 {
     match code {
@@ -68,7 +68,7 @@ fn bad_token(state: u32) -> u32
 }
 
 // Where it holds.
-fn met(state: u32, code: u32) -> u32
+fn when_held(state: u32, code: u32) -> u32
     ensures { λ r. ⌜ r ≡ cell state code true ⌝ }
 {
     match state {

@@ -4,13 +4,13 @@ use Prim.Native.Nat.{ℕ}
 use lib.ListN.{length}
 use denote.Ref.{now}
 use borrow.Author.Needs.{needs}
-use Rattle.connection.specs.Call.{Call, callOf, carriedBy}
+use Rattle.connection.specs.Call.{Call, callOf, inputBy}
 use Rattle.connection.specs.Limits.{limits}
 use Rattle.connection.specs.Step.{decided, stepOf, cacheAfter, resultOf}
 use Rattle.connection.specs.declared.Answer.{Answer}
 use Rattle.connection.specs.declared.Answer.the-variants.{Handled}
 use Rattle.connection.specs.declared.Outcome.{Outcome}
-use Rattle.connection.specs.declared.reading.Carried.{Carried}
+use Rattle.connection.specs.declared.reading.Input.{Input}
 use Rattle.connection.specs.declared.reading.Suites.{Suites}
 use Rattle.connection.proofs.Cache.{room-for, kept, written, unwritten}
 use Rattle.connection.proofs.step.Statement.{statement}
@@ -36,8 +36,8 @@ stepped c =
     let p = length (now (a .payload)) in
     let d = length (now (a .cache)) in
     c .decide .ensures ∙
-    ap (λ (x : Carried). decided limits (a .connection) (a .event .code) x)
-    (c .before .read .ensures ∙ ap (λ (x : Suites). carriedBy limits (a .event) p d x) (c .before .before .choose-suites .ensures))
+    ap (λ (x : Input). decided limits (a .connection) (a .event .code) x)
+    (c .before .read .ensures ∙ ap (λ (x : Suites). inputBy limits (a .event) p d x) (c .before .before .choose-suites .ensures))
 
 -- Its answer decides the cache.
 cached : (c : tie.After-decide) (x : Answer) (cache : List ℕ) → x ≡ c .decide .result .answer → cacheAfter x (call-of c) cache ≡ cacheAfter (stepOf limits (c .before .before .before .before .before .before .before .before .before .args .connection) (call-of c) (length (now (c .before .before .before .before .before .before .before .before .before .args .cache))) .answer) (call-of c) cache

@@ -6,7 +6,7 @@ use lib.Dec.{T, eqb}
 use borrow.Author.Needs.{needs}
 use borrow.Author.Tests.{eq-eqb, ne-eqb, ltb-false, not-false}
 use Rattle.connection.specs.Limits.{limits}
-use Rattle.connection.specs.Refusal.{nextState}
+use Rattle.connection.specs.Condition.{nextState}
 use Rattle.connection.specs.Step.{handledTo, decided}
 use Rattle.table.specs.Table.{cell, settled}
 use Rattle.connection.specs.WellFormed.{wellFormed}
@@ -16,7 +16,7 @@ use Rattle.connection.proofs.judging.decide.Statement.{statement}
 use Rattle.connection.proofs.judging.decide.Tie as tie
 use Rattle.connection.proofs.judging.decide.Reads as reads
 use Rattle.connection.proofs.judging.decide.Lts as lts
-use Rattle.connection.proofs.condition.condition.Reads as condition-reads
+use Rattle.connection.proofs.condition.holds.Reads as holds-reads
 use Rattle.connection.proofs.judging.lowest_fault.Reads as lowest-fault-reads
 use Rattle.connection.proofs.judging.move_on.Reads as move-on-reads
 use Rattle.connection.proofs.judging.unmoved.Reads as unmoved-reads
@@ -24,16 +24,16 @@ use Rattle.connection.proofs.locking.lock.Reads as lock-reads
 use Rattle.table.proofs.next_state.Reads as next-state-reads
 
 -- The next state, of the condition.
-next-is : (c : tie.After-next-state) → c .next-state .result ≡ nextState (c .before .before .before .before .args .connection) (c .before .before .before .before .args .code) (c .before .before .before .before .args .carried)
+next-is : (c : tie.After-next-state) → c .next-state .result ≡ nextState (c .before .before .before .before .args .connection) (c .before .before .before .before .args .code) (c .before .before .before .before .args .input)
 unfolding nextState
-next-is c = let a = c .before .before .before .before .args in c .next-state .ensures ∙ ap (λ (b : Bool). settled (a .connection .«awaiting_ack») (cell (a .connection .state) (a .code) b)) (c .before .condition .ensures)
+next-is c = let a = c .before .before .before .before .args in c .next-state .ensures ∙ ap (λ (b : Bool). settled (a .connection .«awaiting_ack») (cell (a .connection .state) (a .code) b)) (c .before .holds .ensures)
 
 returns : tie.Need-returns
 returns c =
     let a = c .before .before .before .args in
     let low = c .before .before .lowest-fault in
     c .unmoved .ensures ∙
-    judged.refused limits (a .connection) (a .code) (a .carried) (low .result) _ _ (low .ensures) refl refl (ne-eqb (low .result) 0 (c .before .if1 .taken))
+    judged.refused limits (a .connection) (a .code) (a .input) (low .result) _ _ (low .ensures) refl refl (ne-eqb (low .result) 0 (c .before .if1 .taken))
 
 returns-2 : tie.Need-returns-2
 returns-2 c =
@@ -41,7 +41,7 @@ returns-2 c =
     let a = n .before .before .before .before .args in
     let low = n .before .before .before .lowest-fault in
     c .unmoved2 .ensures ∙
-    judged.ignored limits (a .connection) (a .code) (a .carried) (low .result) (n .next-state .result) _ (low .ensures) (next-is n) refl (n .before .before .if1 .left) (c .before .if2 .taken)
+    judged.ignored limits (a .connection) (a .code) (a .input) (low .result) (n .next-state .result) _ (low .ensures) (next-is n) refl (n .before .before .if1 .left) (c .before .if2 .taken)
 
 returns-3 : tie.Need-returns-3
 returns-3 c =
@@ -49,50 +49,50 @@ returns-3 c =
     let a = n .before .before .before .before .args in
     let low = n .before .before .before .lowest-fault in
     c .unmoved3 .ensures ∙
-    judged.refused-full limits (a .connection) (a .code) (a .carried) (low .result) (n .next-state .result) true (low .ensures) (next-is n) (eq-eqb (a .connection .handled) 4294967295 (c .before .if3 .taken)) (n .before .before .if1 .left) (ne-eqb (n .next-state .result) 11 (c .before .before .if2 .left)) refl
+    judged.refused-full limits (a .connection) (a .code) (a .input) (low .result) (n .next-state .result) true (low .ensures) (next-is n) (eq-eqb (a .connection .handled) 4294967295 (c .before .if3 .taken)) (n .before .before .if1 .left) (ne-eqb (n .next-state .result) 11 (c .before .before .if2 .left)) refl
 
 -- Where no lower fault is present, the code is known and the record is well formed.
 known : (n : tie.After-next-state) → n .before .before .before .before .args .code < 24
 known n =
     let a = n .before .before .before .before .args in
     let low = n .before .before .before .lowest-fault in
-    let h = ltb-false 23 (a .code) (judged.no-faults limits (a .connection) (a .code) (a .carried) (sym (n .before .before .if1 .left) ∙ low .ensures) .0) in
+    let h = ltb-false 23 (a .code) (judged.no-faults limits (a .connection) (a .code) (a .input) (sym (n .before .before .if1 .left) ∙ low .ensures) .0) in
     omega arith
 
 well : (n : tie.After-next-state) → T (wellFormed limits (n .before .before .before .before .args .connection))
 well n =
     let a = n .before .before .before .before .args in
     let low = n .before .before .before .lowest-fault in
-    let w = judged.no-faults limits (a .connection) (a .code) (a .carried) (sym (n .before .before .if1 .left) ∙ low .ensures) .1 .1 .1 .1 .1 .1 .0 in
+    let w = judged.no-faults limits (a .connection) (a .code) (a .input) (sym (n .before .before .if1 .left) ∙ low .ensures) .1 .1 .1 .1 .1 .1 .0 in
     subst (λ (b : Bool). T b) (sym (not-false (wellFormed limits (a .connection)) w)) tt
 
 -- The outcome of a handled event.
-goes : (e : tie.Else3) → let a = e .before .before .before .before .before .before .args in handledTo (e .before .before .next-state .result) (a .connection) (a .code) (a .carried) ≡ decided limits (a .connection) (a .code) (a .carried)
+goes : (e : tie.Else3) → let a = e .before .before .before .before .before .before .args in handledTo (e .before .before .next-state .result) (a .connection) (a .code) (a .input) ≡ decided limits (a .connection) (a .code) (a .input)
 goes e =
     let n = e .before .before in
     let a = n .before .before .before .before .args in
     let low = n .before .before .before .lowest-fault in
-    judged.handled limits (a .connection) (a .code) (a .carried) (low .result) (n .next-state .result) false (low .ensures) (next-is n) (ne-eqb (a .connection .handled) 4294967295 (e .if3 .left)) (n .before .before .if1 .left) (ne-eqb (n .next-state .result) 11 (e .before .if2 .left)) refl
+    judged.handled limits (a .connection) (a .code) (a .input) (low .result) (n .next-state .result) false (low .ensures) (next-is n) (ne-eqb (a .connection .handled) 4294967295 (e .if3 .left)) (n .before .before .if1 .left) (ne-eqb (n .next-state .result) 11 (e .before .if2 .left)) refl
 
 returns-4 : tie.Need-returns-4
 returns-4 c =
     let e = c .before .before in
     let a = e .before .before .before .before .before .before .args in
-    c .lock .ensures ∙ by-locking (a .connection) (a .code) (a .carried) ∙
-    ap (λ (t : ℕ). handledTo t (a .connection) (a .code) (a .carried)) (sym (c .before .if4 .taken)) ∙ goes e
+    c .lock .ensures ∙ by-locking (a .connection) (a .code) (a .input) ∙
+    ap (λ (t : ℕ). handledTo t (a .connection) (a .code) (a .input)) (sym (c .before .if4 .taken)) ∙ goes e
 
 move-on-requires : tie.Need-move-on-requires
 move-on-requires c κs =
     let n = c .before .before .before in
     let a = n .before .before .before .before .args in
-    is-moving limits (a .connection) (a .code) (a .carried) (n .next-state .result) (well n) (known n) (sym (next-is n)) (ne-eqb (n .next-state .result) 11 (c .before .before .if2 .left)) (ne-eqb (n .next-state .result) 9 (c .if4 .left))
+    is-moving limits (a .connection) (a .code) (a .input) (n .next-state .result) (well n) (known n) (sym (next-is n)) (ne-eqb (n .next-state .result) 11 (c .before .before .if2 .left)) (ne-eqb (n .next-state .result) 9 (c .if4 .left))
 
 returns-5 : tie.Need-returns-5
 returns-5 c =
     let n = c .before .before .before .before in
     let a = n .before .before .before .before .args in
     c .move-on .ensures ∙
-    by-event limits (a .connection) (a .code) (a .carried) (n .next-state .result) (well n) (known n) (sym (next-is n)) (ne-eqb (n .next-state .result) 11 (c .before .before .before .if2 .left)) (ne-eqb (n .next-state .result) 9 (c .before .if4 .left)) ∙
+    by-event limits (a .connection) (a .code) (a .input) (n .next-state .result) (well n) (known n) (sym (next-is n)) (ne-eqb (n .next-state .result) 11 (c .before .before .before .if2 .left)) (ne-eqb (n .next-state .result) 9 (c .before .if4 .left)) ∙
     goes (c .before .before)
 
 pub decide-spec : {M : Type 1} → statement M

@@ -1,7 +1,7 @@
 use mathlib.Core.Path.{refl}
 use mathlib.Core.List.{List, [], _∷_}
 use borrow.Author.Needs.{needs}
-use Rattle.connection.specs.Kind.{bitIn}
+use Rattle.connection.specs.Kind.{fieldsOf}
 use Rattle.connection.proofs.Opening.{alike}
 use Rattle.connection.proofs.reading.bit_in.Statement.{statement}
 use Rattle.connection.proofs.reading.bit_in.Tie as tie
@@ -13,5 +13,5 @@ bit-in-spec =
     tie.close
     (tie.spec
     (λ c. search needs)
-    (λ c. alike (λ kind. 0) bitIn (0 ∷ 1 ∷ 2 ∷ 4 ∷ []) (refl, (λ tag. refl, (λ tag timer. refl, λ verdict expiry now. refl))) (c .before .args .kind) (c .match .keys2))
+    (λ c. alike (λ kind. 0) (λ kind. fieldsOf kind .bit) (0 ∷ 1 ∷ 2 ∷ 4 ∷ []) (refl, (λ tag. refl, (λ tag timer. refl, λ verdict expiry now. refl))) (c .before .args .kind) (c .match .keys2))
     (λ c. search needs))

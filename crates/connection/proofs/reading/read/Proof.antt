@@ -1,5 +1,5 @@
 use borrow.Author.Needs.{needs}
-use Rattle.connection.specs.Call.{carriedBy}
+use Rattle.connection.specs.Call.{inputBy}
 use Rattle.connection.proofs.Opening.{good-seconds}
 use Rattle.connection.proofs.reading.read.Statement.{statement}
 use Rattle.connection.proofs.reading.read.Tie as tie
@@ -14,7 +14,7 @@ use Rattle.connection.proofs.reading.tag_in.Reads as tag-in-reads
 use Rattle.connection.proofs.reading.timer_in.Reads as timer-in-reads
 
 pub read-spec : {M : Type 1} → statement M
-unfolding carriedBy
+unfolding inputBy
 read-spec =
     tie.close
     (tie.spec

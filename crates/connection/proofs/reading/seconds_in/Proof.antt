@@ -1,7 +1,7 @@
 use mathlib.Core.Path.{refl, _∙_}
 use mathlib.Core.List.{List, [], _∷_}
 use borrow.Author.Needs.{needs}
-use Rattle.connection.specs.Kind.{secondsIn}
+use Rattle.connection.specs.Kind.{fieldsOf}
 use Rattle.connection.proofs.Opening.{alike}
 use Rattle.connection.proofs.reading.seconds_in.Statement.{statement}
 use Rattle.connection.proofs.reading.seconds_in.Tie as tie
@@ -14,6 +14,6 @@ seconds-in-spec =
     tie.close
     (tie.spec
     (λ c. search needs)
-    (λ c. alike (λ kind. 0) secondsIn (0 ∷ 1 ∷ 2 ∷ 3 ∷ []) (refl, (λ tag. refl, (λ tag timer. refl, λ bit. refl))) (c .before .args .kind) (c .match .keys2))
+    (λ c. alike (λ kind. 0) (λ kind. fieldsOf kind .seconds) (0 ∷ 1 ∷ 2 ∷ 3 ∷ []) (refl, (λ tag. refl, (λ tag timer. refl, λ bit. refl))) (c .before .args .kind) (c .match .keys2))
     (λ c κs. search needs)
     (λ c. rw (c .before .before .kind .given .1) (c .good-seconds .ensures ∙ search needs)))

@@ -1,7 +1,8 @@
 use mathlib.Core.Path.{refl, _∙_}
 use mathlib.Core.List.{List, [], _∷_}
 use borrow.Author.Needs.{needs}
-use Rattle.connection.specs.Kind.{tagIn, timeoutTagIn}
+use Rattle.connection.specs.ByEvent.{timeoutTag}
+use Rattle.connection.specs.Kind.{fieldsOf}
 use Rattle.connection.proofs.Opening.{alike}
 use Rattle.connection.proofs.reading.tag_in.Statement.{statement}
 use Rattle.connection.proofs.reading.tag_in.Tie as tie
@@ -15,5 +16,5 @@ tag-in-spec =
     (tie.spec
     (λ c. search needs)
     (λ c κs. search needs)
-    (λ c. c .timeout-tag-in .ensures ∙ alike timeoutTagIn tagIn (0 ∷ 2 ∷ 3 ∷ 4 ∷ []) (refl, (λ tag timer. refl, (λ bit. refl, λ verdict expiry now. refl))) (c .before .before .args .kind) (c .before .match .keys2))
+    (λ c. c .timeout-tag-in .ensures ∙ alike timeoutTag (λ kind. fieldsOf kind .tag) (0 ∷ 2 ∷ 3 ∷ 4 ∷ []) (refl, (λ tag timer. refl, (λ bit. refl, λ verdict expiry now. refl))) (c .before .before .args .kind) (c .before .match .keys2))
     (λ c. search needs))

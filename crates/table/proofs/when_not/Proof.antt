@@ -2,10 +2,10 @@ use mathlib.Core.List.{List, [], _∷_}
 use borrow.Author.Needs.{needs}
 use borrow.Author.Tests.{ne-eqb}
 use Rattle.table.specs.Table.{cell}
-use Rattle.table.proofs.unmet.Statement.{statement}
-use Rattle.table.proofs.unmet.Tie as tie
-use Rattle.table.proofs.unmet.Reads as reads
-use Rattle.table.proofs.unmet.Lts as lts
+use Rattle.table.proofs.when_not.Statement.{statement}
+use Rattle.table.proofs.when_not.Tie as tie
+use Rattle.table.proofs.when_not.Reads as reads
+use Rattle.table.proofs.when_not.Lts as lts
 use Rattle.table.proofs.bad_token.Reads as bad-token-reads
 use Rattle.table.proofs.failed_hello.Reads as failed-hello-reads
 
@@ -14,8 +14,8 @@ returns-3 : tie.Need-returns-3
 unfolding cell
 returns-3 c = rw (ne-eqb _ _ (c .match .rest .0 .1), ne-eqb _ _ (c .match .rest .1))
 
-pub unmet-spec : {M : Type 1} → statement M
-unmet-spec =
+pub when-not-spec : {M : Type 1} → statement M
+when-not-spec =
     tie.close
     (tie.spec
     (λ c κs. search needs)

@@ -3,10 +3,10 @@ use mathlib.Core.List.{List, [], _∷_}
 use borrow.Author.Needs.{needs}
 use Rattle.table.proofs.Arms.{beyond}
 use Rattle.table.proofs.Cells.{locked}
-use Rattle.table.proofs.met.Statement.{statement}
-use Rattle.table.proofs.met.Tie as tie
-use Rattle.table.proofs.met.Reads as reads
-use Rattle.table.proofs.met.Lts as lts
+use Rattle.table.proofs.when_held.Statement.{statement}
+use Rattle.table.proofs.when_held.Tie as tie
+use Rattle.table.proofs.when_held.Reads as reads
+use Rattle.table.proofs.when_held.Lts as lts
 use Rattle.table.proofs.in_closed_unlocked.Reads as in-closed-unlocked-reads
 use Rattle.table.proofs.in_established.Reads as in-established-reads
 use Rattle.table.proofs.in_wait_for_ack.Reads as in-wait-for-ack-reads
@@ -17,8 +17,8 @@ use Rattle.table.proofs.in_wait_for_ra.Reads as in-wait-for-ra-reads
 use Rattle.table.proofs.in_wait_for_ra_prover.Reads as in-wait-for-ra-prover-reads
 use Rattle.table.proofs.in_wait_for_ra_verifier.Reads as in-wait-for-ra-verifier-reads
 
-pub met-spec : {M : Type 1} → statement M
-met-spec =
+pub when-held-spec : {M : Type 1} → statement M
+when-held-spec =
     tie.close
     (tie.spec
     (λ c κs. search needs)

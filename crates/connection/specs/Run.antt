@@ -1,0 +1,14 @@
+-- Document 01, "The five notes": a list of calls, each given the record and the cache that the last one left.
+use mathlib.Core.List.{List, [], _∷_}
+use Prim.Native.Nat.{ℕ}
+use Rattle.connection.specs.Call.{Call}
+use Rattle.connection.specs.Limits.{Limits}
+use Rattle.connection.specs.Step.{Result, resultOf}
+use Rattle.connection.specs.declared.Connection.{Connection}
+
+-- What the host gets for each call of the list.
+unfoldable pub resultsOf : Limits → Connection → (cache : List ℕ) → List Call → List Result
+resultsOf limits connection cache [] = []
+resultsOf limits connection cache (call ∷ calls) =
+    let result = resultOf limits connection call cache in
+    result ∷ resultsOf limits (result .outcome .connection) (result .cache) calls
