@@ -1,4 +1,4 @@
-// A case on a line of standard output: its label, then numbers, each after a space.
+// A case on a line of standard output: its label, then numbers, each after a space, in groups.
 use libc::STDOUT_FILENO;
 
 const MINUS_ONE: i64 = -1;
@@ -27,6 +27,10 @@ pub(crate) fn signed(z: i64) {
     } else {
         number(z as u64);
     }
+}
+
+pub(crate) fn group() {
+    text(b";");
 }
 
 pub(crate) fn end_line() {
