@@ -14,6 +14,7 @@ use table::codes;
 
 pub(crate) fn run() {
     reports();
+    other_reports();
     messages();
     again();
 }
@@ -44,6 +45,9 @@ fn reports() {
         tagged(codes::RA_VERIFIER_OK, 9),
         &[],
     );
+}
+
+fn other_reports() {
     show(
         b"prover FAILED gets no stop",
         BOTH_RUN,

@@ -22,6 +22,7 @@ pub(crate) fn run() {
     numbers();
     lowest();
     suites();
+    other_lists();
 }
 
 fn limits() {
@@ -127,6 +128,9 @@ fn suites() {
         &[1],
         &[1; 17],
     );
+}
+
+fn other_lists() {
     show_lists(
         b"17 entries in a locked connection",
         LOCKED,

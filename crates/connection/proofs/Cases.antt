@@ -1,7 +1,6 @@
 -- Cases 1 to 12 of document 01 hold.
 -- Assumes nothing.
 use mathlib.Core.Path.{refl}
-use lib.IntN.{pos}
 use Rattle.token.specs.SecondsLeft.{secondsLeft}
 use Rattle.suites.specs.Choice.{find, choice}
 use Rattle.table.specs.Table.{cell}

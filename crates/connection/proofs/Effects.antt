@@ -2,8 +2,7 @@
 -- Assumes nothing.
 use mathlib.Core.Path.{_≡_, refl, sym, subst, ap, _∙_}
 use mathlib.Core.Bool.{Bool, true, false, not, _&&_, _||_, cond}
-use mathlib.Core.List.{List, [], _∷_}
-use Prim.Native.Nat.{ℕ, _+_, _<_, _≤_}
+use Prim.Native.Nat.{ℕ, _<_, _≤_}
 use native.Mathlib.Omega.{arith}
 use lib.Dec.{T, eqb}
 use types.Run.{OneOf}
@@ -22,7 +21,7 @@ use Rattle.connection.specs.declared.Connection.{Connection}
 use Rattle.connection.specs.declared.reading.Input.{Input}
 use Rattle.table.proofs.Arms.{one-of}
 use Rattle.table.proofs.Finite.{and-left, and-right, below, below-at, either, either-at}
-use Rattle.connection.proofs.WellFormed.{offIn, Parts, parts}
+use Rattle.connection.proofs.WellFormed.{offIn, parts}
 
 -- An effect that goes by a test.
 pub tag-if : (b : Bool) (e f : Effect) (number tag : ℕ) → tagBy (cond b e f) number tag ≡ cond b (tagBy e number tag) (tagBy f number tag)

@@ -1,7 +1,7 @@
 -- Document 01, "Order sheet" and "Timers": the actions that a handled event orders.
 use Prim.Native.Nat.{ℕ}
-use mathlib.Core.Bool.{Bool, true, false, not, _&&_, cond}
-use mathlib.Core.List.{List, [], _∷_}
+use mathlib.Core.Bool.{Bool, false, not, _&&_, cond}
+use mathlib.Core.List.{[], _∷_}
 use lib.Dec.{eqb}
 use Rattle.connection.specs.Orders as order
 use Rattle.table.specs.Sets.{isIn}

@@ -1,6 +1,6 @@
 -- Document 01, "The record and its tags" and "The published table": the record after a handled event.
 use Prim.Native.Nat.{ℕ, _+_}
-use mathlib.Core.Bool.{Bool, cond}
+use mathlib.Core.Bool.{cond}
 use lib.Dec.{eqb}
 use Rattle.connection.specs.Timers.{Timer, H, HP, HV, DAT, RA, ACK, tagOf, starts, ends, tagAfter}
 use Rattle.connection.specs.declared.Connection.{Connection}

@@ -61,6 +61,7 @@ effects from to =
     ∷ six keep keep keep keep keep start  -- 23
     ∷ []
 
+-- The row of a code.
 abbrev pub effectOf : (code from to : ℕ) → Timer → Effect
 effectOf code from to = getD (effects from to) code (six keep keep keep keep keep keep)
 

@@ -6,7 +6,6 @@ use mathlib.Core.List.{List, [], _∷_}
 use lib.IntN.{ℤ, pos, negsuc}
 use lib.ListN.{getD, replicate}
 use Rattle.token.specs.SecondsLeft.{secondsLeft}
-use Rattle.connection.specs.Block.{partOf}
 use Rattle.connection.specs.Call.{Call, callOf}
 use Rattle.connection.specs.Limits.{limits}
 use Rattle.connection.specs.Orders as order
@@ -55,6 +54,7 @@ pub record Told : Type 0 where
   pub proverSuite : ℕ
   pub part : List ℕ
 
+-- What a result tells.
 abbrev pub toldOf : Result → Told
 toldOf result = record {
   state = result .outcome .connection .state;
@@ -67,6 +67,7 @@ toldOf result = record {
   part = result .part;
 }
 
+-- The fields in their order.
 abbrev pub told : (state number : ℕ) → Answer → (message seconds verifierSuite proverSuite : ℕ) (part : List ℕ) → Told
 told state number answer message seconds verifierSuite proverSuite part = record {
   state = state;
@@ -88,18 +89,21 @@ pub data Case : Type 0 where
   call : List Call → (place : ℕ) → Told → Case
   left : (expiry now seconds : ℤ) → Case
 
+-- The case holds of the definitions.
 unfoldable pub Holds : Case → Type 0
 Holds (call calls place t) = toldOf (getD (resultsOf limits fresh (replicate 4096 0) calls) place noResult) ≡ t
 Holds (left expiry now seconds) = secondsLeft expiry now ≡ seconds
 
+-- So do all of a list.
 unfoldable pub AllHold : List Case → Type 0
 AllHold [] = Unit {0}
 AllHold (case ∷ cases) = Holds case × AllHold cases
 
--- The largest and the smallest 64-bit value.
+-- The largest 64-bit value.
 abbrev pub largest : ℤ
 largest = pos 9223372036854775807
 
+-- The smallest 64-bit value.
 abbrev pub smallest : ℤ
 smallest = negsuc 9223372036854775807
 

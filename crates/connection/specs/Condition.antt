@@ -30,6 +30,7 @@ conditions name =
     ∷ live (named name) ∷ live DAT ∷ live RA ∷ live ACK  -- 20 to 23, from timers
     ∷ []
 
+-- The condition of a code; one above 23 has none.
 abbrev pub conditionOf : (code name : ℕ) → Condition
 conditionOf code name = getD (conditions name) code nothing
 
@@ -46,6 +47,7 @@ meets connection input expectedBit = eqb (input .bit) (connection .«expected_bi
 meets connection input nextSendBit = eqb (connection .«awaiting_ack») 1 && eqb (input .bit) (connection .«next_send_bit»)
 meets connection input nothing = true
 
+-- Whether the event's condition holds.
 unfoldable pub holds : Connection → (code : ℕ) → Input → Bool
 holds connection code input = meets connection input (conditionOf code (input .timer))
 

@@ -25,9 +25,11 @@ kinds event =
     ∷ timeout ∷ tagged ∷ tagged ∷ tagged  -- 20 to 23
     ∷ []
 
+-- The kind of a code; above 23 there is nothing to read.
 abbrev pub kindAt : (code : ℕ) → Event → EventKind
 kindAt code event = getD (kinds event) code Plain
 
+-- The kind of an event.
 unfoldable pub kindOf : Event → EventKind
 kindOf event = kindAt (event .code) event
 
@@ -39,6 +41,7 @@ pub record Fields : Type 0 where
   pub isGood : Bool
   pub seconds : ℕ
 
+-- The fields in their order.
 abbrev pub fields : (tag timer bit : ℕ) (isGood : Bool) (seconds : ℕ) → Fields
 fields tag timer bit isGood seconds = record { tag = tag; timer = timer; bit = bit; isGood = isGood; seconds = seconds }
 

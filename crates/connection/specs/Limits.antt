@@ -2,6 +2,7 @@
 -- Every definition that uses one of these takes it from a parameter of this type.
 use Prim.Native.Nat.{ℕ}
 
+-- The limits of a build.
 pub record Limits : Type 0 where
   -- The most bytes of a payload and of the cached block, and the fewest bytes of a cache.
   pub payload : ℕ

@@ -61,9 +61,11 @@ pub record Result : Type 0 where
   pub cache : List ℕ
   pub part : List ℕ
 
+-- The part is that of the cache as it is then.
 abbrev pub resultWith : Outcome → (payload cache : List ℕ) → Result
 resultWith outcome payload cache = record { outcome = outcome; cache = cache; part = partOf (outcome .actions) payload cache }
 
+-- The result of a call, given a record and a cache.
 unfoldable pub resultOf : Limits → Connection → Call → (cache : List ℕ) → Result
 resultOf limits connection call cache =
     let outcome = stepOf limits connection call (length cache) in

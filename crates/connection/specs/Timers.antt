@@ -1,7 +1,7 @@
 -- Document 01, "The record and its tags" and "Timers": the six timers, their tags, when each starts and when it ends.
 use Prim.Native.Nat.{ℕ}
 use mathlib.Core.Bool.{Bool, true, false, not, _&&_, _||_, cond}
-use mathlib.Core.List.{List, [], _∷_}
+use mathlib.Core.List.{[], _∷_}
 use lib.Dec.{eqb}
 use Rattle.connection.specs.Orders.{none, start, cancel}
 use Rattle.table.specs.Sets.{isIn}

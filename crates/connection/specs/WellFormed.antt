@@ -1,11 +1,11 @@
 -- Document 01, "The record and its tags": the fresh record, and which records are well formed.
 use Prim.Native.Nat.{ℕ}
 use mathlib.Core.Bool.{Bool, true, not, _&&_, _||_, cond}
-use mathlib.Core.List.{List, [], _∷_}
+use mathlib.Core.List.{[], _∷_}
 use lib.Dec.{eqb, leb}
 use Rattle.connection.specs.Limits.{Limits}
 use Rattle.table.specs.Sets.{isIn}
-use Rattle.connection.specs.Timers.{Timer, H, HP, HV, DAT, RA, ACK, tagOf, runsIn, raMayRun}
+use Rattle.connection.specs.Timers.{Timer, H, HP, HV, DAT, RA, ACK, runsIn, raMayRun}
 use Rattle.connection.specs.declared.Connection.{Connection}
 
 -- State 0, all else 0.
@@ -78,6 +78,7 @@ fitsState state connection =
     && onJustIn DAT state (connection .dat)
     && onJustIn ACK state (connection .ack)
 
+-- The whole list of document 01.
 unfoldable pub wellFormed : Limits → Connection → Bool
 wellFormed limits connection =
     fieldsFit limits connection && tagsAtMost (connection .handled) connection && fitsState (connection .state) connection

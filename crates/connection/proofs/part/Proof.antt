@@ -1,3 +1,4 @@
+-- `connection::part` meets its contract.
 use lib.Dec.{leb·zero}
 use lib.ListN.{length}
 use denote.Ref.{now}
@@ -6,9 +7,6 @@ use borrow.Author.Tests.{ne-eqb}
 use Rattle.connection.specs.Block.{partOf}
 use Rattle.connection.proofs.part.Statement.{statement}
 use Rattle.connection.proofs.part.Tie as tie
-use Rattle.connection.proofs.part.Reads as reads
-use Rattle.connection.proofs.part.Lts as lts
-use Rattle.connection.proofs.block.front.Reads as front-reads
 
 pub part-spec : {M : Type 1} → statement M
 unfolding partOf

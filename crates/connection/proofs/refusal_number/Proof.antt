@@ -1,5 +1,6 @@
+-- `connection::refusal_number` meets its contract.
 use mathlib.Core.Path.{_≡_, refl}
-use mathlib.Core.List.{List, [], _∷_}
+use mathlib.Core.List.{[], _∷_}
 use Prim.Native.Nat.{ℕ}
 use borrow.Author.Needs.{needs}
 use denote.Enum.Declared.{tagOf}
@@ -10,8 +11,6 @@ use Rattle.connection.specs.declared.Answer.the-variants.{Handled, Ignor
 use Rattle.connection.proofs.Answer.{the-type}
 use Rattle.connection.proofs.refusal_number.Statement.{statement}
 use Rattle.connection.proofs.refusal_number.Tie as tie
-use Rattle.connection.proofs.refusal_number.Reads as reads
-use Rattle.connection.proofs.refusal_number.Lts as lts
 
 no-refusal : (answer : Answer) → OneOf (0 ∷ 1 ∷ []) (tagOf the-type answer) → _≡_ {A = ℕ} 0 (refusalNumber answer)
 no-refusal Handled o = refl

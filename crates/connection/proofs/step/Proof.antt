@@ -1,3 +1,4 @@
+-- `connection::step` meets its contract.
 use mathlib.Core.Path.{_≡_, refl, sym, ap, _∙_}
 use mathlib.Core.List.{List}
 use Prim.Native.Nat.{ℕ}
@@ -15,12 +16,6 @@ use Rattle.connection.specs.declared.reading.Suites.{Suites}
 use Rattle.connection.proofs.Cache.{room-for, kept, written, unwritten}
 use Rattle.connection.proofs.step.Statement.{statement}
 use Rattle.connection.proofs.step.Tie as tie
-use Rattle.connection.proofs.step.Reads as reads
-use Rattle.connection.proofs.step.Lts as lts
-use Rattle.connection.proofs.block.store.Reads as store-reads
-use Rattle.connection.proofs.judging.decide.Reads as decide-reads
-use Rattle.connection.proofs.reading.choose_suites.Reads as choose-suites-reads
-use Rattle.connection.proofs.reading.read.Reads as read-reads
 
 -- The arguments as a call.
 call-of : (c : tie.After-decide) → Call

@@ -1,13 +1,12 @@
+-- `table::bad_token` meets its contract.
 use mathlib.Core.Bool.{false}
-use mathlib.Core.List.{List, [], _∷_}
+use mathlib.Core.List.{[]}
 use native.Mathlib.Omega.{arith}
 use Rattle.table.specs.Table.{cell}
 use Rattle.table.proofs.Arms.{range, rest}
 use Rattle.table.proofs.Cells.{no-state}
 use Rattle.table.proofs.bad_token.Statement.{statement}
 use Rattle.table.proofs.bad_token.Tie as tie
-use Rattle.table.proofs.bad_token.Reads as reads
-use Rattle.table.proofs.bad_token.Lts as lts
 
 pub bad-token-spec : {M : Type 1} → statement M
 unfolding cell

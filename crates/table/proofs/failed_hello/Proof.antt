@@ -1,13 +1,12 @@
+-- `table::failed_hello` meets its contract.
 use mathlib.Core.Bool.{false}
-use mathlib.Core.List.{List, [], _∷_}
+use mathlib.Core.List.{[], _∷_}
 use native.Mathlib.Omega.{arith}
 use Rattle.table.specs.Table.{cell}
 use Rattle.table.proofs.Arms.{keys, rest}
 use Rattle.table.proofs.Cells.{no-state}
 use Rattle.table.proofs.failed_hello.Statement.{statement}
 use Rattle.table.proofs.failed_hello.Tie as tie
-use Rattle.table.proofs.failed_hello.Reads as reads
-use Rattle.table.proofs.failed_hello.Lts as lts
 
 pub failed-hello-spec : {M : Type 1} → statement M
 unfolding cell

@@ -1,12 +1,11 @@
-use mathlib.Core.List.{List, [], _∷_}
+-- `table::in_established` meets its contract.
+use mathlib.Core.List.{[], _∷_}
 use native.Mathlib.Omega.{arith}
 use Rattle.table.specs.Table.{cell}
 use Rattle.table.proofs.Arms.{keys, rest}
 use Rattle.table.proofs.Cells.{held, no-code}
 use Rattle.table.proofs.in_established.Statement.{statement}
 use Rattle.table.proofs.in_established.Tie as tie
-use Rattle.table.proofs.in_established.Reads as reads
-use Rattle.table.proofs.in_established.Lts as lts
 
 pub in-established-spec : {M : Type 1} → statement M
 unfolding cell

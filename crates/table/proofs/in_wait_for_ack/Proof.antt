@@ -1,12 +1,11 @@
-use mathlib.Core.List.{List, [], _∷_}
+-- `table::in_wait_for_ack` meets its contract.
+use mathlib.Core.List.{[], _∷_}
 use native.Mathlib.Omega.{arith}
 use Rattle.table.specs.Table.{cell}
 use Rattle.table.proofs.Arms.{keys, rest}
 use Rattle.table.proofs.Cells.{held, no-code}
 use Rattle.table.proofs.in_wait_for_ack.Statement.{statement}
 use Rattle.table.proofs.in_wait_for_ack.Tie as tie
-use Rattle.table.proofs.in_wait_for_ack.Reads as reads
-use Rattle.table.proofs.in_wait_for_ack.Lts as lts
 
 pub in-wait-for-ack-spec : {M : Type 1} → statement M
 unfolding cell

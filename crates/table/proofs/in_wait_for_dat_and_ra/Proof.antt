@@ -1,3 +1,4 @@
+-- `table::in_wait_for_dat_and_ra` meets its contract.
 use mathlib.Core.Path.{_∙_}
 use mathlib.Core.List.{List, [], _∷_}
 use Prim.Native.Nat.{ℕ}
@@ -9,9 +10,6 @@ use Rattle.table.proofs.Arms.{keys, range, rest}
 use Rattle.table.proofs.Cells.{held, no-code}
 use Rattle.table.proofs.in_wait_for_dat_and_ra.Statement.{statement}
 use Rattle.table.proofs.in_wait_for_dat_and_ra.Tie as tie
-use Rattle.table.proofs.in_wait_for_dat_and_ra.Reads as reads
-use Rattle.table.proofs.in_wait_for_dat_and_ra.Lts as lts
-use Rattle.table.proofs.report.Reads as report-reads
 
 -- The arms of keys, the last one first.
 abbrev arms : List (List ℕ)

@@ -1,12 +1,11 @@
-use mathlib.Core.List.{List, [], _∷_}
+-- `table::in_wait_for_hello` meets its contract.
+use mathlib.Core.List.{[], _∷_}
 use native.Mathlib.Omega.{arith}
 use Rattle.table.specs.Table.{cell}
 use Rattle.table.proofs.Arms.{keys, rest}
 use Rattle.table.proofs.Cells.{held, no-code}
 use Rattle.table.proofs.in_wait_for_hello.Statement.{statement}
 use Rattle.table.proofs.in_wait_for_hello.Tie as tie
-use Rattle.table.proofs.in_wait_for_hello.Reads as reads
-use Rattle.table.proofs.in_wait_for_hello.Lts as lts
 
 pub in-wait-for-hello-spec : {M : Type 1} → statement M
 unfolding cell

@@ -1,12 +1,11 @@
+-- `table::report` meets its contract.
 use mathlib.Core.Path.{_≡_, refl}
-use mathlib.Core.List.{List, [], _∷_}
+use mathlib.Core.List.{[], _∷_}
 use Prim.Native.Nat.{ℕ}
 use Rattle.table.specs.Report.{reported}
 use Rattle.table.proofs.Arms.{at-keys, not-in}
 use Rattle.table.proofs.report.Statement.{statement}
 use Rattle.table.proofs.report.Tie as tie
-use Rattle.table.proofs.report.Reads as reads
-use Rattle.table.proofs.report.Lts as lts
 
 returns : tie.Need-returns
 returns c = let a = c .before .args in at-keys (λ k. a .ok ≡ reported k (a .ok) (a .stay)) (4 ∷ 7 ∷ []) (refl, refl) _ (c .match .keys1)

@@ -1,13 +1,9 @@
-use mathlib.Core.List.{List, [], _∷_}
+-- `table::when_not` meets its contract.
 use borrow.Author.Needs.{needs}
 use borrow.Author.Tests.{ne-eqb}
 use Rattle.table.specs.Table.{cell}
 use Rattle.table.proofs.when_not.Statement.{statement}
 use Rattle.table.proofs.when_not.Tie as tie
-use Rattle.table.proofs.when_not.Reads as reads
-use Rattle.table.proofs.when_not.Lts as lts
-use Rattle.table.proofs.bad_token.Reads as bad-token-reads
-use Rattle.table.proofs.failed_hello.Reads as failed-hello-reads
 
 -- Any other event has no cell here.
 returns-3 : tie.Need-returns-3

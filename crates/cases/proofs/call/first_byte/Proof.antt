@@ -1,10 +1,8 @@
+-- `cases::call::first_byte` meets its contract.
 use native.Mathlib.Omega.{arith}
 use borrow.Author.Needs.{needs}
 use Rattle.cases.proofs.call.first_byte.Statement.{statement}
 use Rattle.cases.proofs.call.first_byte.Tie as tie
-use Rattle.cases.proofs.call.first_byte.Reads as reads
-use Rattle.cases.proofs.call.first_byte.Lts as lts
-use Rattle.cases.proofs.print.number.Reads as number-reads
 
 -- A byte fits 64 bits.
 cast-number : tie.Need-cast-number

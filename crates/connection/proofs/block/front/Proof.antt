@@ -1,11 +1,10 @@
+-- `connection::block::front` meets its contract.
 use mathlib.Core.Path.{sym}
 use lib.Seq.{length-take-le}
 use borrow.Author.Needs.{needs}
 use borrow.Author.Tests.{le-leb, lt-leb}
 use Rattle.connection.proofs.block.front.Statement.{statement}
 use Rattle.connection.proofs.block.front.Tie as tie
-use Rattle.connection.proofs.block.front.Reads as reads
-use Rattle.connection.proofs.block.front.Lts as lts
 
 pub front-spec : {M : Type 1} → statement M
 front-spec =

@@ -9,8 +9,6 @@ use lib.Seq.{take-length, take-suc, drop-cons, append-snoc, set-at, length-take-
 use denote.Ref.{now}
 use Rattle.connection.proofs.block.store.Statement.{statement}
 use Rattle.connection.proofs.block.store.Tie as tie
-use Rattle.connection.proofs.block.store.Reads as reads
-use Rattle.connection.proofs.block.store.Lts as lts
 
 abbrev Inv-loop : tie.InvT-loop
 Inv-loop cache₀ payload i₀ i-end cache i = (i ≤ length payload) × (cache ≡ take i payload ++ drop i cache₀)

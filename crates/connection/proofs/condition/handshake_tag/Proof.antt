@@ -1,8 +1,7 @@
+-- `connection::condition::handshake_tag` meets its contract.
 use borrow.Author.Tests.{ne-eqb}
 use Rattle.connection.proofs.condition.handshake_tag.Statement.{statement}
 use Rattle.connection.proofs.condition.handshake_tag.Tie as tie
-use Rattle.connection.proofs.condition.handshake_tag.Reads as reads
-use Rattle.connection.proofs.condition.handshake_tag.Lts as lts
 
 pub handshake-tag-spec : {M : Type 1} → statement M
 handshake-tag-spec =

@@ -1,3 +1,4 @@
+-- `connection::condition::holds` meets its contract.
 use mathlib.Core.Path.{_≡_, refl, _∙_}
 use mathlib.Core.Bool.{true}
 use mathlib.Core.List.{List, [], _∷_}
@@ -11,10 +12,6 @@ use Rattle.connection.specs.declared.reading.Input.{Input}
 use Rattle.table.proofs.Arms.{in-range, from}
 use Rattle.connection.proofs.condition.holds.Statement.{statement}
 use Rattle.connection.proofs.condition.holds.Tie as tie
-use Rattle.connection.proofs.condition.holds.Reads as reads
-use Rattle.connection.proofs.condition.holds.Lts as lts
-use Rattle.connection.proofs.condition.handshake_tag.Reads as handshake-tag-reads
-use Rattle.connection.proofs.condition.live.Reads as live-reads
 
 -- The arms of keys, the last one first.
 abbrev arms : List (List ℕ)

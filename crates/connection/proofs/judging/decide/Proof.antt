@@ -1,8 +1,9 @@
+-- `connection::judging::decide` meets its contract.
 use mathlib.Core.Path.{_≡_, refl, sym, subst, ap, _∙_}
-use mathlib.Core.Bool.{Bool, true, false, _||_}
+use mathlib.Core.Bool.{Bool, true, false}
 use Prim.Native.Nat.{ℕ, _<_}
 use native.Mathlib.Omega.{arith}
-use lib.Dec.{T, eqb}
+use lib.Dec.{T}
 use borrow.Author.Needs.{needs}
 use borrow.Author.Tests.{eq-eqb, ne-eqb, ltb-false, not-false}
 use Rattle.connection.specs.Limits.{limits}
@@ -14,14 +15,6 @@ use Rattle.connection.proofs.Decided as judged
 use Rattle.connection.proofs.Effects.{is-moving, by-event, by-locking}
 use Rattle.connection.proofs.judging.decide.Statement.{statement}
 use Rattle.connection.proofs.judging.decide.Tie as tie
-use Rattle.connection.proofs.judging.decide.Reads as reads
-use Rattle.connection.proofs.judging.decide.Lts as lts
-use Rattle.connection.proofs.condition.holds.Reads as holds-reads
-use Rattle.connection.proofs.judging.lowest_fault.Reads as lowest-fault-reads
-use Rattle.connection.proofs.judging.move_on.Reads as move-on-reads
-use Rattle.connection.proofs.judging.unmoved.Reads as unmoved-reads
-use Rattle.connection.proofs.locking.lock.Reads as lock-reads
-use Rattle.table.proofs.next_state.Reads as next-state-reads
 
 -- The next state, of the condition.
 next-is : (c : tie.After-next-state) → c .next-state .result ≡ nextState (c .before .before .before .before .args .connection) (c .before .before .before .before .args .code) (c .before .before .before .before .args .input)

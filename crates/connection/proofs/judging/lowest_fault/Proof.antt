@@ -1,10 +1,8 @@
+-- `connection::judging::lowest_fault` meets its contract.
 use borrow.Author.Needs.{needs}
 use borrow.Author.Tests.{lt-ltb, le-ltb, not-true, not-false}
 use Rattle.connection.proofs.judging.lowest_fault.Statement.{statement}
 use Rattle.connection.proofs.judging.lowest_fault.Tie as tie
-use Rattle.connection.proofs.judging.lowest_fault.Reads as reads
-use Rattle.connection.proofs.judging.lowest_fault.Lts as lts
-use Rattle.connection.proofs.well_formed.well_formed.Reads as well-formed-reads
 
 pub lowest-fault-spec : {M : Type 1} → statement M
 lowest-fault-spec =

@@ -1,3 +1,4 @@
+-- `connection::judging::move_on` meets its contract.
 use mathlib.Core.Logic.{inl, inr}
 use mathlib.Core.List.{List, [], _∷_}
 use Prim.Native.Nat.{ℕ}
@@ -6,22 +7,6 @@ use Rattle.connection.specs.ByEvent.{moving}
 use Rattle.table.proofs.Arms.{remains}
 use Rattle.connection.proofs.judging.move_on.Statement.{statement}
 use Rattle.connection.proofs.judging.move_on.Tie as tie
-use Rattle.connection.proofs.judging.move_on.Reads as reads
-use Rattle.connection.proofs.judging.move_on.Lts as lts
-use Rattle.connection.proofs.moves.expire_token.Reads as expire-token-reads
-use Rattle.connection.proofs.moves.open_connection.Reads as open-connection-reads
-use Rattle.connection.proofs.moves.pass_on.Reads as pass-on-reads
-use Rattle.connection.proofs.moves.prove_again.Reads as prove-again-reads
-use Rattle.connection.proofs.moves.prover_ok.Reads as prover-ok-reads
-use Rattle.connection.proofs.moves.receive_ack.Reads as receive-ack-reads
-use Rattle.connection.proofs.moves.receive_data.Reads as receive-data-reads
-use Rattle.connection.proofs.moves.renew_token.Reads as renew-token-reads
-use Rattle.connection.proofs.moves.repeat_data.Reads as repeat-data-reads
-use Rattle.connection.proofs.moves.send_data.Reads as send-data-reads
-use Rattle.connection.proofs.moves.send_report.Reads as send-report-reads
-use Rattle.connection.proofs.moves.start_handshake.Reads as start-handshake-reads
-use Rattle.connection.proofs.moves.verifier_ok.Reads as verifier-ok-reads
-use Rattle.connection.proofs.moves.verify_again.Reads as verify-again-reads
 
 -- The arms of keys, the last one first.
 abbrev arms : List (List ℕ)

@@ -1,14 +1,10 @@
-use borrow.Author.Needs.{needs}
+-- `connection::locking::closing_message` meets its contract.
 use Rattle.connection.proofs.locking.closing_message.Statement.{statement}
 use Rattle.connection.proofs.locking.closing_message.Tie as tie
-use Rattle.connection.proofs.locking.closing_message.Reads as reads
-use Rattle.connection.proofs.locking.closing_message.Lts as lts
 
--- src/locking.rt:19:1
 returns : tie.Need-returns
 returns c = rw (c .if1 .taken)
 
--- src/locking.rt:19:1
 returns-2 : tie.Need-returns-2
 returns-2 c = rw (c .if1 .left)
 

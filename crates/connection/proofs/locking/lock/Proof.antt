@@ -1,12 +1,7 @@
+-- `connection::locking::lock` meets its contract.
 use borrow.Author.Needs.{needs}
 use Rattle.connection.proofs.locking.lock.Statement.{statement}
 use Rattle.connection.proofs.locking.lock.Tie as tie
-use Rattle.connection.proofs.locking.lock.Reads as reads
-use Rattle.connection.proofs.locking.lock.Lts as lts
-use Rattle.connection.proofs.locking.cancel.Reads as cancel-reads
-use Rattle.connection.proofs.locking.closing_message.Reads as closing-message-reads
-use Rattle.connection.proofs.locking.locked_record.Reads as locked-record-reads
-use Rattle.connection.proofs.locking.stop.Reads as stop-reads
 
 pub lock-spec : {M : Type 1} → statement M
 lock-spec =

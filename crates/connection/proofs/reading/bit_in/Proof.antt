@@ -1,12 +1,11 @@
+-- `connection::reading::bit_in` meets its contract.
 use mathlib.Core.Path.{refl}
-use mathlib.Core.List.{List, [], _∷_}
+use mathlib.Core.List.{[], _∷_}
 use borrow.Author.Needs.{needs}
 use Rattle.connection.specs.Kind.{fieldsOf}
 use Rattle.connection.proofs.Opening.{alike}
 use Rattle.connection.proofs.reading.bit_in.Statement.{statement}
 use Rattle.connection.proofs.reading.bit_in.Tie as tie
-use Rattle.connection.proofs.reading.bit_in.Reads as reads
-use Rattle.connection.proofs.reading.bit_in.Lts as lts
 
 pub bit-in-spec : {M : Type 1} → statement M
 bit-in-spec =

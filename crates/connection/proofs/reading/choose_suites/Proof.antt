@@ -1,12 +1,8 @@
+-- `connection::reading::choose_suites` meets its contract.
 use borrow.Author.Needs.{needs}
 use borrow.Author.Tests.{eq-eqb, ne-eqb}
 use Rattle.connection.proofs.reading.choose_suites.Statement.{statement}
 use Rattle.connection.proofs.reading.choose_suites.Tie as tie
-use Rattle.connection.proofs.reading.choose_suites.Reads as reads
-use Rattle.connection.proofs.reading.choose_suites.Lts as lts
-use Rattle.connection.proofs.reading.suites_in.Reads as suites-in-reads
-use Rattle.suites.proofs.any_too_long.Reads as any-too-long-reads
-use Rattle.suites.proofs.choose.Reads as choose-reads
 
 pub choose-suites-spec : {M : Type 1} → statement M
 choose-suites-spec =

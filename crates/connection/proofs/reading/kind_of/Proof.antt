@@ -1,3 +1,4 @@
+-- `connection::reading::kind_of` meets its contract.
 use mathlib.Core.Path.{_≡_, refl}
 use mathlib.Core.Logic.{inl, inr}
 use mathlib.Core.List.{List, [], _∷_}
@@ -5,13 +6,11 @@ use Prim.Native.Nat.{ℕ}
 use native.Mathlib.Omega.{arith}
 use borrow.Author.Needs.{needs}
 use Rattle.connection.specs.Kind.{kindAt, kindOf}
-use Rattle.connection.specs.declared.reading.EventKind.the-variants.{Plain, Tagged, HandshakeTimeout, Bit, Token}
-use Rattle.table.proofs.Arms.{at-keys, in-range, from}
+use Rattle.connection.specs.declared.reading.EventKind.the-variants.{Plain, Tagged, Bit}
+use Rattle.table.proofs.Arms.{in-range, from}
 use Rattle.connection.proofs.Opening.{no-kind}
 use Rattle.connection.proofs.reading.kind_of.Statement.{statement}
 use Rattle.connection.proofs.reading.kind_of.Tie as tie
-use Rattle.connection.proofs.reading.kind_of.Reads as reads
-use Rattle.connection.proofs.reading.kind_of.Lts as lts
 
 -- The arms of keys, the last one first.
 abbrev arms : List (List ℕ)

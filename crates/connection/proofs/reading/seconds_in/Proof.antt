@@ -1,13 +1,11 @@
+-- `connection::reading::seconds_in` meets its contract.
 use mathlib.Core.Path.{refl, _∙_}
-use mathlib.Core.List.{List, [], _∷_}
+use mathlib.Core.List.{[], _∷_}
 use borrow.Author.Needs.{needs}
 use Rattle.connection.specs.Kind.{fieldsOf}
 use Rattle.connection.proofs.Opening.{alike}
 use Rattle.connection.proofs.reading.seconds_in.Statement.{statement}
 use Rattle.connection.proofs.reading.seconds_in.Tie as tie
-use Rattle.connection.proofs.reading.seconds_in.Reads as reads
-use Rattle.connection.proofs.reading.seconds_in.Lts as lts
-use Rattle.token.proofs.good_seconds.Reads as good-seconds-reads
 
 pub seconds-in-spec : {M : Type 1} → statement M
 seconds-in-spec =

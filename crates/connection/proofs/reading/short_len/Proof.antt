@@ -1,9 +1,8 @@
+-- `connection::reading::short_len` meets its contract.
 use borrow.Author.Needs.{needs}
 use borrow.Author.Tests.{lt-ltb, le-ltb}
 use Rattle.connection.proofs.reading.short_len.Statement.{statement}
 use Rattle.connection.proofs.reading.short_len.Tie as tie
-use Rattle.connection.proofs.reading.short_len.Reads as reads
-use Rattle.connection.proofs.reading.short_len.Lts as lts
 
 pub short-len-spec : {M : Type 1} → statement M
 short-len-spec =

@@ -1,10 +1,7 @@
+-- `connection::reading::suites_in` meets its contract.
 use borrow.Author.Needs.{needs}
 use Rattle.connection.proofs.reading.suites_in.Statement.{statement}
 use Rattle.connection.proofs.reading.suites_in.Tie as tie
-use Rattle.connection.proofs.reading.suites_in.Reads as reads
-use Rattle.connection.proofs.reading.suites_in.Lts as lts
-use Rattle.connection.proofs.reading.is_found.Reads as is-found-reads
-use Rattle.connection.proofs.reading.number_in.Reads as number-in-reads
 
 pub suites-in-spec : {M : Type 1} → statement M
 suites-in-spec =

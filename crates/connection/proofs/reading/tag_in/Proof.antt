@@ -1,14 +1,12 @@
+-- `connection::reading::tag_in` meets its contract.
 use mathlib.Core.Path.{refl, _∙_}
-use mathlib.Core.List.{List, [], _∷_}
+use mathlib.Core.List.{[], _∷_}
 use borrow.Author.Needs.{needs}
 use Rattle.connection.specs.ByEvent.{timeoutTag}
 use Rattle.connection.specs.Kind.{fieldsOf}
 use Rattle.connection.proofs.Opening.{alike}
 use Rattle.connection.proofs.reading.tag_in.Statement.{statement}
 use Rattle.connection.proofs.reading.tag_in.Tie as tie
-use Rattle.connection.proofs.reading.tag_in.Reads as reads
-use Rattle.connection.proofs.reading.tag_in.Lts as lts
-use Rattle.connection.proofs.reading.timeout_tag_in.Reads as timeout-tag-in-reads
 
 pub tag-in-spec : {M : Type 1} → statement M
 tag-in-spec =

@@ -1,12 +1,11 @@
+-- `connection::reading::timeout_tag_in` meets its contract.
 use mathlib.Core.Path.{refl}
-use mathlib.Core.List.{List, [], _∷_}
+use mathlib.Core.List.{[], _∷_}
 use borrow.Author.Needs.{needs}
 use Rattle.connection.specs.ByEvent.{timeoutTag}
 use Rattle.connection.proofs.Opening.{alike}
 use Rattle.connection.proofs.reading.timeout_tag_in.Statement.{statement}
 use Rattle.connection.proofs.reading.timeout_tag_in.Tie as tie
-use Rattle.connection.proofs.reading.timeout_tag_in.Reads as reads
-use Rattle.connection.proofs.reading.timeout_tag_in.Lts as lts
 
 pub timeout-tag-in-spec : {M : Type 1} → statement M
 timeout-tag-in-spec =

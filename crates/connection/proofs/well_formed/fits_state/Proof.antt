@@ -1,5 +1,6 @@
+-- `connection::well_formed::fits_state` meets its contract.
 use mathlib.Core.Path.{_≡_, refl, sym, ap, _∙_}
-use mathlib.Core.List.{List, [], _∷_}
+use mathlib.Core.List.{[], _∷_}
 use mathlib.Core.Bool.{Bool}
 use Prim.Native.Nat.{ℕ, _≤_}
 use native.Mathlib.Omega.{arith}
@@ -10,18 +11,6 @@ use Rattle.connection.specs.declared.Connection.{Connection}
 use Rattle.table.proofs.Arms.{beyond}
 use Rattle.connection.proofs.well_formed.fits_state.Statement.{statement}
 use Rattle.connection.proofs.well_formed.fits_state.Tie as tie
-use Rattle.connection.proofs.well_formed.fits_state.Reads as reads
-use Rattle.connection.proofs.well_formed.fits_state.Lts as lts
-use Rattle.connection.proofs.well_formed.fits_closed_locked.Reads as fits-closed-locked-reads
-use Rattle.connection.proofs.well_formed.fits_closed_unlocked.Reads as fits-closed-unlocked-reads
-use Rattle.connection.proofs.well_formed.fits_established.Reads as fits-established-reads
-use Rattle.connection.proofs.well_formed.fits_wait_for_ack.Reads as fits-wait-for-ack-reads
-use Rattle.connection.proofs.well_formed.fits_wait_for_dat_and_ra.Reads as fits-wait-for-dat-and-ra-reads
-use Rattle.connection.proofs.well_formed.fits_wait_for_dat_and_ra_verifier.Reads as fits-wait-for-dat-and-ra-verifier-reads
-use Rattle.connection.proofs.well_formed.fits_wait_for_hello.Reads as fits-wait-for-hello-reads
-use Rattle.connection.proofs.well_formed.fits_wait_for_ra.Reads as fits-wait-for-ra-reads
-use Rattle.connection.proofs.well_formed.fits_wait_for_ra_prover.Reads as fits-wait-for-ra-prover-reads
-use Rattle.connection.proofs.well_formed.fits_wait_for_ra_verifier.Reads as fits-wait-for-ra-verifier-reads
 
 in-state : {r : Bool} (s t : ℕ) (connection : Connection) → r ≡ fitsState t connection → s ≡ t → r ≡ fitsState s connection
 in-state s t connection e k = e ∙ ap (λ (n : ℕ). fitsState n connection) (sym k)

@@ -1,3 +1,4 @@
+-- `connection::well_formed::well_formed` meets its contract.
 use mathlib.Core.Path.{sym, subst}
 use mathlib.Core.Bool.{Bool, _&&_}
 use lib.Dec.{T}
@@ -9,11 +10,6 @@ use Rattle.table.proofs.Finite.{and-left}
 use Rattle.connection.proofs.WellFormed.{state-fits}
 use Rattle.connection.proofs.well_formed.well_formed.Statement.{statement}
 use Rattle.connection.proofs.well_formed.well_formed.Tie as tie
-use Rattle.connection.proofs.well_formed.well_formed.Reads as reads
-use Rattle.connection.proofs.well_formed.well_formed.Lts as lts
-use Rattle.connection.proofs.well_formed.fields_fit.Reads as fields-fit-reads
-use Rattle.connection.proofs.well_formed.fits_state.Reads as fits-state-reads
-use Rattle.connection.proofs.well_formed.tags_at_most.Reads as tags-at-most-reads
 
 fits-state-requires : tie.Need-fits-state-requires
 fits-state-requires c κs =
