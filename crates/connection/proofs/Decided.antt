@@ -49,9 +49,14 @@ module _ (limits : Limits) (connection : Connection) (code : ℕ) (input : Input
       let number = cond (eqb lower 0) (cond (not (eqb to 11) && full) 8 0) lower in
       cond (eqb number 0) (cond (eqb to 11) (unchanged Ignored connection) (handledTo to connection code input)) (unchanged (Refused number) connection)
 
+  -- The refusal, by the lower faults and fault 8.
+  refusal-by : refusal limits connection code input ≡ cond (eqb (firstFault 1 lowerFaults) 0) (cond (not (eqb (nextState connection code input) 11) && eqb (connection .handled) (limits .handled)) 8 0) (firstFault 1 lowerFaults)
+  unfolding refusal
+  refusal-by = first-of 0 lowerFaults ((not (eqb (nextState connection code input) 11) && eqb (connection .handled) (limits .handled)) ∷ [])
+
   decided-by : decided limits connection code input ≡ judged (firstFault 1 lowerFaults) (nextState connection code input) (eqb (connection .handled) (limits .handled))
-  unfolding decided refusal
-  decided-by = rw (first-of 0 lowerFaults ((not (eqb (nextState connection code input) 11) && eqb (connection .handled) (limits .handled)) ∷ []))
+  unfolding decided
+  decided-by = rw refusal-by
 
   module _ (lower to : ℕ) (full : Bool) (is-lower : lower ≡ firstFault 1 lowerFaults) (is-next : to ≡ nextState connection code input) (is-full : eqb (connection .handled) (limits .handled) ≡ full) where
     as-judged : judged lower to full ≡ decided limits connection code input

@@ -6,7 +6,7 @@ use Prim.Native.Nat.{ℕ, _<_, _≤_}
 use native.Mathlib.Omega.{arith}
 use lib.Dec.{T, eqb}
 use types.Run.{OneOf}
-use Rattle.connection.specs.Actions.{lockingSheet, movingSheet, ordersOf, actionsOf}
+use Rattle.connection.specs.Actions.{lockingActions, movingActions, ordersOf, actionsOf}
 use Rattle.connection.specs.Advance.{raised, locked, moved, tagsAfter, advance}
 use Rattle.connection.specs.ByEvent.{Effect, keep, start, cancel, expire, clear, effectOf, tagBy, orderBy, byEvent, byLocking, moving}
 use Rattle.connection.specs.Condition.{holds, nextState}
@@ -148,8 +148,8 @@ fit s k flag to b hs hk hf e n =
 moved-by : (f g : Timer → ℕ) → ((x : Timer) → f x ≡ g x) → (number : ℕ) (connection : Connection) (code : ℕ) (input : Input) (to : ℕ) → moved f number connection code input to ≡ moved g number connection code input to
 moved-by f g p number connection code input to = rw (p H, p HP, p HV, p DAT, p RA, p ACK)
 
-sheet-by : (f g : Timer → ℕ) → ((x : Timer) → f x ≡ g x) → (connection : Connection) (code : ℕ) (input : Input) → movingSheet f connection code input ≡ movingSheet g connection code input
-sheet-by f g p connection code input = rw (p H, p HP, p HV, p DAT, p RA, p ACK)
+actions-by : (f g : Timer → ℕ) → ((x : Timer) → f x ≡ g x) → (connection : Connection) (code : ℕ) (input : Input) → movingActions f connection code input ≡ movingActions g connection code input
+actions-by f g p connection code input = rw (p H, p HP, p HV, p DAT, p RA, p ACK)
 
 otherwise : {A : Type 0} (b : Bool) (x y : A) → b ≡ false → cond b x y ≡ y
 otherwise true x y e = absurd (subst (λ (c : Bool). T c) e tt)
@@ -191,9 +191,9 @@ module _ (limits : Limits) (connection : Connection) (code : ℕ) (input : Input
   by-event =
       let effect = effectOf code (connection .state) to in
       let p = moved-by (λ x. tagBy (effect x) (raised connection) (tagOf connection x)) (tagsAfter connection code to) tag-of (raised connection) connection code input to in
-      let q = sheet-by (λ x. orderBy (effect x) (tagOf connection x)) (ordersOf connection code input to) order-of connection code input in
+      let q = actions-by (λ x. orderBy (effect x) (tagOf connection x)) (ordersOf connection code input to) order-of connection code input in
       let p′ = p ∙ sym (otherwise (eqb to 9) (locked (raised connection)) _ stays) in
-      let q′ = q ∙ sym (otherwise (eqb to 9) (lockingSheet (ordersOf connection code input to) connection code) _ stays) in
+      let q′ = q ∙ sym (otherwise (eqb to 9) (lockingActions (ordersOf connection code input to) connection code) _ stays) in
       λ i. record { answer = Handled; connection = p′ i; actions = q′ i }
 
 -- What it does for an event that locks, too.

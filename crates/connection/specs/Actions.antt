@@ -11,7 +11,7 @@ use Rattle.connection.specs.declared.Actions.{Actions}
 use Rattle.connection.specs.declared.Connection.{Connection}
 use Rattle.connection.specs.declared.reading.Input.{Input}
 
--- The empty sheet.
+-- The empty order sheet.
 abbrev pub noActions : Actions
 noActions = record {
   message = order.none;
@@ -40,9 +40,9 @@ closing code = cond (isIn (10 ∷ 12 ∷ []) code) order.none order.CLOSE
 abbrev pub stopped : (reported : Bool) (tag : ℕ) → ℕ
 stopped reported tag = cond (not reported && not (eqb tag 0)) order.stop order.none
 
--- The sheet of an event that locks; the orders to the timers are given.
-abbrev pub lockingSheet : (Timer → ℕ) → Connection → (code : ℕ) → Actions
-lockingSheet orders connection code = record {
+-- The actions of an event that locks; the orders to the timers are given.
+abbrev pub lockingActions : (Timer → ℕ) → Connection → (code : ℕ) → Actions
+lockingActions orders connection code = record {
   message = closing code;
   prover = stopped (isIn (7 ∷ 8 ∷ []) code) (connection .prover);
   verifier = stopped (isIn (4 ∷ 5 ∷ []) code) (connection .verifier);
@@ -98,9 +98,9 @@ sourceOf code =
 abbrev pub lengthOf : (code cachedLen payloadLen : ℕ) → ℕ
 lengthOf code cachedLen payloadLen = cond (eqb code 23) cachedLen (cond (carriesPayload code) payloadLen 0)
 
--- The sheet of an event that doesn't lock; the orders to the timers are given. It has both suites on opening.
-abbrev pub movingSheet : (Timer → ℕ) → Connection → (code : ℕ) → Input → Actions
-movingSheet orders connection code input = record {
+-- The actions of an event that doesn't lock; the orders to the timers are given. They have both suites on opening.
+abbrev pub movingActions : (Timer → ℕ) → Connection → (code : ℕ) → Input → Actions
+movingActions orders connection code input = record {
   message = messageOf code;
   prover = proverOrder code;
   verifier = verifierOrder code (connection .verifier);
@@ -128,5 +128,5 @@ ordersOf connection code input to timer =
 -- The actions of a handled event that leads to a state.
 unfoldable pub actionsOf : Connection → (code : ℕ) → Input → (to : ℕ) → Actions
 actionsOf connection code input to =
-    cond (eqb to 9) (lockingSheet (ordersOf connection code input to) connection code)
-    (movingSheet (ordersOf connection code input to) connection code input)
+    cond (eqb to 9) (lockingActions (ordersOf connection code input to) connection code)
+    (movingActions (ordersOf connection code input to) connection code input)

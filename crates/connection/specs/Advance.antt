@@ -3,6 +3,7 @@ use Prim.Native.Nat.{ℕ, _+_}
 use mathlib.Core.Bool.{cond}
 use lib.Dec.{eqb}
 use Rattle.connection.specs.Timers.{Timer, H, HP, HV, DAT, RA, ACK, tagOf, starts, ends, tagAfter}
+use Rattle.connection.specs.WellFormed.{cleared}
 use Rattle.connection.specs.declared.Connection.{Connection}
 use Rattle.connection.specs.declared.reading.Input.{Input}
 
@@ -16,20 +17,7 @@ flipped bit = cond (eqb bit 0) 1 0
 
 -- Locking sets state 9 and everything else 0 but the number.
 abbrev pub locked : (number : ℕ) → Connection
-locked number = record {
-  state = 9;
-  «awaiting_ack» = 0;
-  «next_send_bit» = 0;
-  «expected_bit» = 0;
-  «cached_len» = 0;
-  handled = number;
-  h = 0;
-  prover = 0;
-  verifier = 0;
-  dat = 0;
-  ra = 0;
-  ack = 0;
-}
+locked number = cleared 9 number
 
 -- An event that doesn't lock: 2 keeps the payload's length and sets the flag, 19 clears both and flips the next-send bit,
 -- 18 flips the expected bit; the tags are given.

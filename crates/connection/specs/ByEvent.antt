@@ -9,7 +9,7 @@ use Rattle.connection.specs.Orders as order
 use Rattle.table.specs.Sets.{isIn}
 use Rattle.connection.specs.Timers.{Timer, H, HP, HV, DAT, RA, ACK, tagOf}
 use Rattle.connection.specs.Advance.{locked, moved}
-use Rattle.connection.specs.Actions.{lockingSheet, movingSheet, ordersOf}
+use Rattle.connection.specs.Actions.{lockingActions, movingActions, ordersOf}
 use Rattle.connection.specs.declared.Answer.the-variants.{Handled}
 use Rattle.connection.specs.declared.Connection.{Connection}
 use Rattle.connection.specs.declared.Outcome.{Outcome}
@@ -88,7 +88,7 @@ byEvent number connection code input to =
     record {
       answer = Handled;
       connection = moved (λ timer. tagBy (effect timer) number (tagOf connection timer)) number connection code input to;
-      actions = movingSheet (λ timer. orderBy (effect timer) (tagOf connection timer)) connection code input;
+      actions = movingActions (λ timer. orderBy (effect timer) (tagOf connection timer)) connection code input;
     }
 
 -- A handled event that locks.
@@ -96,7 +96,7 @@ abbrev pub byLocking : (number : ℕ) → Connection → (code : ℕ) → Input 
 byLocking number connection code input = record {
   answer = Handled;
   connection = locked number;
-  actions = lockingSheet (ordersOf connection code input 9) connection code;
+  actions = lockingActions (ordersOf connection code input 9) connection code;
 }
 
 -- The events that are handled without a lock in some state.

@@ -8,15 +8,15 @@ use Rattle.table.specs.Sets.{isIn}
 use Rattle.connection.specs.Timers.{Timer, H, HP, HV, DAT, RA, ACK, runsIn, raMayRun}
 use Rattle.connection.specs.declared.Connection.{Connection}
 
--- State 0, all else 0.
-abbrev pub fresh : Connection
-fresh = record {
-  state = 0;
+-- A record with a state and a number, all else 0.
+abbrev pub cleared : (state number : ℕ) → Connection
+cleared state number = record {
+  state = state;
   «awaiting_ack» = 0;
   «next_send_bit» = 0;
   «expected_bit» = 0;
   «cached_len» = 0;
-  handled = 0;
+  handled = number;
   h = 0;
   prover = 0;
   verifier = 0;
@@ -24,6 +24,10 @@ fresh = record {
   ra = 0;
   ack = 0;
 }
+
+-- State 0, all else 0.
+abbrev pub fresh : Connection
+fresh = cleared 0 0
 
 -- State at most 9; bits and flag 0 or 1; length at most the payload limit, and 0 when the flag is 0.
 abbrev pub fieldsFit : Limits → Connection → Bool

@@ -112,13 +112,20 @@ pub struct Outcome {
 pub fn fresh() -> Connection
     ensures { λ r. ⌜ r ≡ spec.fresh ⌝ }
 {
+    cleared(states::CLOSED_UNLOCKED, 0)
+}
+
+// A record with a state and a number, all else 0.
+fn cleared(state: u32, handled: u32) -> Connection
+    ensures { λ r. ⌜ r ≡ spec.cleared state handled ⌝ }
+{
     Connection {
-        state: states::CLOSED_UNLOCKED,
+        state,
         awaiting_ack: 0,
         next_send_bit: 0,
         expected_bit: 0,
         cached_len: 0,
-        handled: 0,
+        handled,
         h: 0,
         prover: 0,
         verifier: 0,

@@ -2,13 +2,13 @@
 ghost use mathlib.Core.Path.{_≡_};
 ghost use mathlib.Core.Bool.{true, false};
 ghost use Rattle.connection.specs.Actions.{closing, stopped};
-ghost use Rattle.connection.specs.Advance.{locked};
 ghost use Rattle.connection.specs.ByEvent.{byLocking};
 ghost use Rattle.connection.specs.Timers.{timerOrder};
 use crate::Actions;
 use crate::Answer;
 use crate::Connection;
 use crate::Outcome;
+use crate::cleared;
 use crate::moves::NO_ACTIONS;
 use crate::orders;
 use crate::reading::Input;
@@ -48,26 +48,6 @@ fn cancel(reported: bool, tag: u32) -> u32
     }
 }
 
-// The record of a locked connection.
-fn locked_record(number: u32) -> Connection
-    ensures { λ r. ⌜ r ≡ locked number ⌝ }
-{
-    Connection {
-        state: states::CLOSED_LOCKED,
-        awaiting_ack: 0,
-        next_send_bit: 0,
-        expected_bit: 0,
-        cached_len: 0,
-        handled: number,
-        h: 0,
-        prover: 0,
-        verifier: 0,
-        dat: 0,
-        ra: 0,
-        ack: 0,
-    }
-}
-
 // Stops every driver and cancels every timer that runs.
 pub(crate) fn lock(connection: Connection, code: u32, input: Input, number: u32) -> Outcome
     ensures { λ r. ⌜ r ≡ byLocking number connection code input ⌝ }
@@ -87,7 +67,7 @@ pub(crate) fn lock(connection: Connection, code: u32, input: Input, number: u32)
     actions.ack = cancel(code == codes::ACK_TIMEOUT, connection.ack);
     Outcome {
         answer: Answer::Handled,
-        connection: locked_record(number),
+        connection: cleared(states::CLOSED_LOCKED, number),
         actions,
     }
 }

@@ -17,4 +17,4 @@ lock-spec =
     (λ c κs. search needs)
     (λ c κs. search needs)
     (λ c κs. search needs)
-    (λ c. rw (c .locked-record .ensures, c .before .cancel6 .ensures, c .before .before .cancel5 .ensures, c .before .before .before .cancel4 .ensures, c .before .before .before .before .cancel3 .ensures, c .before .before .before .before .before .before .cancel2 .ensures, c .before .before .before .before .before .before .before .before .cancel .ensures, c .before .before .before .before .before .before .before .before .before .before .stop2 .ensures, c .before .before .before .before .before .before .before .before .before .before .before .stop .ensures, c .before .before .before .before .before .before .before .before .before .before .before .before .closing-message .ensures)))
+    (λ c. rw (c .cleared .ensures, c .before .cancel6 .ensures, c .before .before .cancel5 .ensures, c .before .before .before .cancel4 .ensures, c .before .before .before .before .cancel3 .ensures, c .before .before .before .before .before .before .cancel2 .ensures, c .before .before .before .before .before .before .before .before .cancel .ensures, c .before .before .before .before .before .before .before .before .before .before .stop2 .ensures, c .before .before .before .before .before .before .before .before .before .before .before .stop .ensures, c .before .before .before .before .before .before .before .before .before .before .before .before .closing-message .ensures)))
