@@ -20,7 +20,7 @@ use Rattle.connection.specs.declared.Answer.the-variants.{Handled}
 use Rattle.connection.specs.declared.Connection.{Connection}
 use Rattle.connection.specs.declared.reading.Input.{Input}
 use Rattle.table.proofs.Arms.{one-of}
-use Rattle.table.proofs.Finite.{and-left, and-right, below, below-at, either, either-at}
+use Rattle.table.proofs.Finite.{and-left, and-right, is-false, below, below-at, either, either-at}
 use Rattle.connection.proofs.WellFormed.{offIn, parts}
 
 -- An effect that goes by a test.
@@ -102,47 +102,43 @@ timers-at p t DAT = search (and-left, and-right) depth 16
 timers-at p t RA = search (and-left, and-right) depth 16
 timers-at p t ACK = search (and-left, and-right) depth 16
 
--- In a state s with a flag, event k with its condition held or not: ignored, locking, or handled with effects that fit.
-abbrev cellFits : (s k flag : ℕ) (b : Bool) → Bool
-cellFits s k flag b =
-    let to = settled flag (cell s k b) in
-    cond (eqb to 11 || eqb to 9) true
-    (isIn moving k && (not (eqb k 20)
-    && timers (λ x. fits (effectOf k s to x) (starts x k s to) (ends x k s to) (reports x k 0) (offIn x s) (runsIn x s))))
+-- What event k, from state s to another, does to a timer fits its rules.
+abbrev effectFits : (s k to : ℕ) → Timer → Bool
+effectFits s k to x = fits (effectOf k s to x) (starts x k s to) (ends x k s to) (reports x k 0) (offIn x s) (runsIn x s)
 
--- All cells fit.
+-- An event that is ignored, locks, or moves on with effects that fit.
+abbrev moveFits : (s k to : ℕ) → Bool
+moveFits s k to = cond (eqb to 11 || eqb to 9) true (isIn moving k && (not (eqb k 20) && timers (effectFits s k to)))
+
+abbrev cellFits : (s k flag : ℕ) (b : Bool) → Bool
+cellFits s k flag b = moveFits s k (settled flag (cell s k b))
+
+-- All cells fit, with either flag and with the condition held or not.
 all-fit : T (below 10 (λ s. below 24 (λ k. below 2 (λ flag. either (cellFits s k flag)))))
 unfolding cell
 all-fit = tt
 
--- What fits in a cell that is neither ignored nor locks.
+fit : (s k flag : ℕ) (b : Bool) → s ≤ 9 → k < 24 → flag ≤ 1 → T (cellFits s k flag b)
+fit s k flag b hs hk hf =
+    either-at (cellFits s k flag)
+    (below-at 2 (λ f. either (cellFits s k f))
+    (below-at 24 (λ j. below 2 (λ f. either (cellFits s j f)))
+    (below-at 10 (λ i. below 24 (λ j. below 2 (λ f. either (cellFits i j f)))) all-fit s (omega arith)) k hk) flag (omega arith)) b
+
+-- What that says of an event that moves on.
 record Fit (s k to : ℕ) : Type 0 where
   moves : OneOf moving k
   no-timeout : eqb k 20 ≡ false
-  effect : (x : Timer) → T (fits (effectOf k s to x) (starts x k s to) (ends x k s to) (reports x k 0) (offIn x s) (runsIn x s))
+  effect : (x : Timer) → T (effectFits s k to x)
 
-is-false : (b : Bool) → T (not b) → b ≡ false
-is-false true t = absurd t
-is-false false t = refl
-
-fit-by : (s k to : ℕ) (skip : Bool) → skip ≡ false
-    → T (cond skip true (isIn moving k && (not (eqb k 20) && timers (λ x. fits (effectOf k s to x) (starts x k s to) (ends x k s to) (reports x k 0) (offIn x s) (runsIn x s)))))
-    → Fit s k to
-fit-by s k to true e t = absurd (subst (λ (b : Bool). T b) e tt)
-fit-by s k to false e t = record {
-  moves = one-of moving k (and-left (isIn moving k) _ t);
-  no-timeout = is-false (eqb k 20) (and-left (not (eqb k 20)) _ (and-right (isIn moving k) _ t));
-  effect = timers-at (λ x. fits (effectOf k s to x) (starts x k s to) (ends x k s to) (reports x k 0) (offIn x s) (runsIn x s)) (and-right (not (eqb k 20)) _ (and-right (isIn moving k) _ t));
-}
-
-fit : (s k flag to : ℕ) (b : Bool) → s ≤ 9 → k < 24 → flag ≤ 1 → settled flag (cell s k b) ≡ to → (eqb to 11 || eqb to 9) ≡ false → Fit s k to
-fit s k flag to b hs hk hf e n =
-    fit-by s k to (eqb to 11 || eqb to 9) n
-    (subst (λ (t : ℕ). T (cond (eqb t 11 || eqb t 9) true (isIn moving k && (not (eqb k 20) && timers (λ x. fits (effectOf k s t x) (starts x k s t) (ends x k s t) (reports x k 0) (offIn x s) (runsIn x s)))))) e
-    (either-at (cellFits s k flag)
-    (below-at 2 (λ f. either (cellFits s k f))
-    (below-at 24 (λ j. below 2 (λ f. either (cellFits s j f)))
-    (below-at 10 (λ i. below 24 (λ j. below 2 (λ f. either (cellFits i j f)))) all-fit s (omega arith)) k hk) flag (omega arith)) b))
+fit-by : (s k to : ℕ) → (eqb to 11 || eqb to 9) ≡ false → T (moveFits s k to) → Fit s k to
+fit-by s k to e t =
+    let m : T (isIn moving k && (not (eqb k 20) && timers (effectFits s k to))) = rw e at t in
+    record {
+      moves = one-of moving k (and-left (isIn moving k) _ m);
+      no-timeout = is-false (eqb k 20) (and-left (not (eqb k 20)) _ (and-right (isIn moving k) _ m));
+      effect = timers-at (effectFits s k to) (and-right (not (eqb k 20)) _ (and-right (isIn moving k) _ m));
+    }
 
 -- The record and the sheet of a move, by the tags and the orders.
 moved-by : (f g : Timer → ℕ) → ((x : Timer) → f x ≡ g x) → (number : ℕ) (connection : Connection) (code : ℕ) (input : Input) (to : ℕ) → moved f number connection code input to ≡ moved g number connection code input to
@@ -171,7 +167,8 @@ module _ (limits : Limits) (connection : Connection) (code : ℕ) (input : Input
   unfolding nextState
   fitting =
       let p = parts limits connection well in
-      fit (connection .state) code (connection .«awaiting_ack») to (holds connection code input) (p .state) known (p .flag) next (rw heard stays)
+      let t = fit (connection .state) code (connection .«awaiting_ack») (holds connection code input) (p .state) known (p .flag) in
+      fit-by (connection .state) code to (rw heard stays) (subst (λ (n : ℕ). T (moveFits (connection .state) code n)) next t)
 
   pub is-moving : OneOf moving code
   unfolding fitting

@@ -9,7 +9,7 @@ use Rattle.connection.specs.Limits.{Limits}
 use Rattle.connection.specs.Timers.{Timer, H, HP, HV, DAT, RA, ACK, tagOf, runsIn, raMayRun, isRa}
 use Rattle.connection.specs.WellFormed.{fieldsFit, tagsAtMost, fitsState, onJustIn, wellFormed}
 use Rattle.connection.specs.declared.Connection.{Connection}
-use Rattle.table.proofs.Finite.{and-left, and-right, below-at}
+use Rattle.table.proofs.Finite.{and-left, and-right, is-false, below-at}
 
 -- Whether a timer's tag is off in a state, whatever the record.
 abbrev pub offIn : Timer → (state : ℕ) → Bool
@@ -26,10 +26,6 @@ just-off : (runs free : Bool) (tag : ℕ) → T (cond free true (cond runs (not 
 just-off true free tag t o = absurd o
 just-off false true tag t o = absurd o
 just-off false false tag t o = eqb→eq tag 0 t
-
-is-false : (b : Bool) → T (not b) → b ≡ false
-is-false true t = absurd t
-is-false false t = refl
 
 just-on : (runs free : Bool) (tag : ℕ) → T (not (runs && free)) → T (cond free true (cond runs (not (eqb tag 0)) (eqb tag 0))) → T runs → eqb tag 0 ≡ false
 just-on true true tag n t o = absurd n

@@ -1,7 +1,7 @@
 -- A test over every number below a bound, which antt computes, and what it says of one.
 -- Assumes nothing.
-use mathlib.Core.Path.{_≡_, sym, subst}
-use mathlib.Core.Bool.{Bool, true, false, _&&_}
+use mathlib.Core.Path.{_≡_, refl, sym, subst}
+use mathlib.Core.Bool.{Bool, true, false, not, _&&_}
 use Prim.Native.Nat.{ℕ, zero, suc, _<_}
 use native.Mathlib.Decide.{ℕ-discrete}
 use native.Mathlib.Omega.{arith}
@@ -14,6 +14,10 @@ and-left false b t = t
 pub and-right : (a b : Bool) → T (a && b) → T b
 and-right true b t = t
 and-right false b t = absurd t
+
+pub is-false : (b : Bool) → T (not b) → b ≡ false
+is-false true t = absurd t
+is-false false t = refl
 
 abbrev pub below : ℕ → (ℕ → Bool) → Bool
 below zero p = true
