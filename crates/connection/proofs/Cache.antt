@@ -10,18 +10,18 @@ use borrow.Author.Tests.{eqb-true, ltb-false, eq-eqb, ne-eqb}
 use denote.Enum.Declared.{tagOf}
 use types.Run.{OneOf, miss}
 use Rattle.connection.specs.Block.{stored}
-use Rattle.connection.specs.Call.{Call, carriesPayload, inputBy}
+use Rattle.event.specs.Call.{Call, carriesPayload, inputBy}
 use Rattle.connection.specs.Condition.{nextState}
-use Rattle.connection.specs.Limits.{Limits}
+use Rattle.record.specs.Limits.{Limits}
 use Rattle.connection.specs.Refusal.{refusal, faults}
 use Rattle.connection.specs.Step.{unchanged, handledTo, decided, cacheAfter}
 use Rattle.connection.specs.declared.Answer.{Answer}
 use Rattle.connection.specs.declared.Answer.the-variants.{Handled, Ignored, Refused}
-use Rattle.connection.specs.declared.Connection.{Connection}
-use Rattle.connection.specs.declared.Event.{Event}
+use Rattle.record.specs.declared.Connection.{Connection}
+use Rattle.event.specs.declared.Event.{Event}
 use Rattle.connection.specs.declared.Outcome.{Outcome}
-use Rattle.connection.specs.declared.reading.Input.{Input}
-use Rattle.connection.specs.declared.reading.Suites.{Suites}
+use Rattle.event.specs.declared.Input.{Input}
+use Rattle.event.specs.declared.Suites.{Suites}
 use Rattle.connection.proofs.Answer.{the-type}
 use Rattle.connection.proofs.Decided.{NoneOf, none-of}
 

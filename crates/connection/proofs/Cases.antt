@@ -7,14 +7,14 @@ use Rattle.table.specs.Table.{cell}
 use Rattle.connection.specs.Actions.{actionsOf}
 use Rattle.connection.specs.Advance.{advance}
 use Rattle.connection.specs.Block.{partOf}
-use Rattle.connection.specs.Call.{inputBy}
+use Rattle.event.specs.Call.{inputBy}
 use Rattle.connection.specs.Cases.{Holds, AllHold, cases}
 use Rattle.connection.specs.Condition.{holds, nextState}
-use Rattle.connection.specs.Kind.{kindOf}
+use Rattle.event.specs.Kind.{kindOf}
 use Rattle.connection.specs.Refusal.{refusal}
 use Rattle.connection.specs.Run.{resultsOf}
 use Rattle.connection.specs.Step.{decided, resultOf}
-use Rattle.connection.specs.WellFormed.{wellFormed}
+use Rattle.record.specs.WellFormed.{wellFormed}
 
 pub worked : AllHold cases
 unfolding AllHold Holds resultsOf resultOf decided refusal nextState holds cell advance actionsOf partOf inputBy kindOf wellFormed choice find secondsLeft

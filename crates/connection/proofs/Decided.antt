@@ -8,14 +8,14 @@ use native.Mathlib.Omega.{arith}
 use lib.Dec.{eqb}
 use borrow.Author.Tests.{ne-eqb, eqb-true}
 use Rattle.connection.specs.Condition.{nextState}
-use Rattle.connection.specs.Limits.{Limits}
+use Rattle.record.specs.Limits.{Limits}
 use Rattle.connection.specs.Refusal.{argumentFaults, firstFault, refusal}
 use Rattle.connection.specs.Step.{refusalNumber, unchanged, handledTo, decided}
-use Rattle.connection.specs.WellFormed.{wellFormed}
+use Rattle.record.specs.WellFormed.{wellFormed}
 use Rattle.connection.specs.declared.Answer.the-variants.{Ignored, Refused}
-use Rattle.connection.specs.declared.Connection.{Connection}
+use Rattle.record.specs.declared.Connection.{Connection}
 use Rattle.connection.specs.declared.Outcome.{Outcome}
-use Rattle.connection.specs.declared.reading.Input.{Input}
+use Rattle.event.specs.declared.Input.{Input}
 
 -- The number after those of a list of faults.
 abbrev after : ℕ → List Bool → ℕ

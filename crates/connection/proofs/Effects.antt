@@ -10,18 +10,19 @@ use Rattle.connection.specs.Actions.{lockingActions, movingActions, orde
 use Rattle.connection.specs.Advance.{raised, locked, moved, tagsAfter, advance}
 use Rattle.connection.specs.ByEvent.{Effect, keep, start, cancel, expire, clear, effectOf, tagBy, orderBy, byEvent, byLocking, moving}
 use Rattle.connection.specs.Condition.{holds, nextState}
-use Rattle.connection.specs.Limits.{Limits}
+use Rattle.record.specs.Limits.{Limits}
 use Rattle.table.specs.Sets.{isIn}
 use Rattle.connection.specs.Step.{handledTo}
 use Rattle.table.specs.Table.{cell, settled}
-use Rattle.connection.specs.Timers.{Timer, H, HP, HV, DAT, RA, ACK, tagOf, runsIn, starts, ends, reports, tagAfter, timerOrder}
-use Rattle.connection.specs.WellFormed.{wellFormed}
+use Rattle.record.specs.Tags.{Timer, H, HP, HV, DAT, RA, ACK, tagOf, runsIn}
+use Rattle.connection.specs.Timers.{starts, ends, reports, tagAfter, timerOrder}
+use Rattle.record.specs.WellFormed.{wellFormed}
 use Rattle.connection.specs.declared.Answer.the-variants.{Handled}
-use Rattle.connection.specs.declared.Connection.{Connection}
-use Rattle.connection.specs.declared.reading.Input.{Input}
+use Rattle.record.specs.declared.Connection.{Connection}
+use Rattle.event.specs.declared.Input.{Input}
 use Rattle.table.proofs.Arms.{one-of}
 use Rattle.table.proofs.Finite.{and-left, and-right, is-false, below, below-at, either, either-at}
-use Rattle.connection.proofs.WellFormed.{offIn, parts}
+use Rattle.record.proofs.WellFormed.{offIn, parts}
 
 -- An effect that goes by a test.
 pub tag-if : (b : Bool) (e f : Effect) (number tag : ℕ) → tagBy (cond b e f) number tag ≡ cond b (tagBy e number tag) (tagBy f number tag)

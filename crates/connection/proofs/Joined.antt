@@ -4,10 +4,10 @@ use mathlib.Core.Path.{_≡_, ap, _∙_}
 use mathlib.Core.List.{List}
 use Prim.Native.Nat.{ℕ}
 use Rattle.connection.specs.Block.{partOf}
-use Rattle.connection.specs.Call.{Call}
-use Rattle.connection.specs.Limits.{Limits}
+use Rattle.event.specs.Call.{Call}
+use Rattle.record.specs.Limits.{Limits}
 use Rattle.connection.specs.Step.{resultOf}
-use Rattle.connection.specs.declared.Connection.{Connection}
+use Rattle.record.specs.declared.Connection.{Connection}
 use Rattle.connection.specs.declared.Outcome.{Outcome}
 
 pub part-of-result : (limits : Limits) (connection : Connection) (call : Call) (before after : List ℕ) (outcome : Outcome)

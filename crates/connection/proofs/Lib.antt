@@ -3,5 +3,3 @@ pub mod Cases
 pub mod Decided
 mod Effects
 pub mod Joined
-mod Opening
-mod WellFormed

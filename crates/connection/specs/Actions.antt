@@ -5,11 +5,12 @@ use mathlib.Core.List.{[], _∷_}
 use lib.Dec.{eqb}
 use Rattle.connection.specs.Orders as order
 use Rattle.table.specs.Sets.{isIn}
-use Rattle.connection.specs.Call.{carriesPayload}
-use Rattle.connection.specs.Timers.{Timer, H, HP, HV, DAT, RA, ACK, tagOf, starts, ends, reports, startsProver, startsVerifier, timerOrder}
+use Rattle.event.specs.Call.{carriesPayload}
+use Rattle.record.specs.Tags.{Timer, H, HP, HV, DAT, RA, ACK, tagOf}
+use Rattle.connection.specs.Timers.{starts, ends, reports, startsProver, startsVerifier, timerOrder}
 use Rattle.connection.specs.declared.Actions.{Actions}
-use Rattle.connection.specs.declared.Connection.{Connection}
-use Rattle.connection.specs.declared.reading.Input.{Input}
+use Rattle.record.specs.declared.Connection.{Connection}
+use Rattle.event.specs.declared.Input.{Input}
 
 -- The empty order sheet.
 abbrev pub noActions : Actions

@@ -2,10 +2,11 @@
 use Prim.Native.Nat.{ℕ, _+_}
 use mathlib.Core.Bool.{cond}
 use lib.Dec.{eqb}
-use Rattle.connection.specs.Timers.{Timer, H, HP, HV, DAT, RA, ACK, tagOf, starts, ends, tagAfter}
-use Rattle.connection.specs.WellFormed.{cleared}
-use Rattle.connection.specs.declared.Connection.{Connection}
-use Rattle.connection.specs.declared.reading.Input.{Input}
+use Rattle.record.specs.Tags.{Timer, H, HP, HV, DAT, RA, ACK, tagOf}
+use Rattle.connection.specs.Timers.{starts, ends, tagAfter}
+use Rattle.record.specs.WellFormed.{cleared}
+use Rattle.record.specs.declared.Connection.{Connection}
+use Rattle.event.specs.declared.Input.{Input}
 
 -- A handled event raises the number by 1.
 abbrev pub raised : Connection → ℕ

@@ -7,15 +7,13 @@ use lib.Dec.{eqb}
 use lib.ListN.{getD}
 use Rattle.connection.specs.Orders as order
 use Rattle.table.specs.Sets.{isIn}
-use Rattle.connection.specs.Timers.{Timer, H, HP, HV, DAT, RA, ACK, tagOf}
+use Rattle.record.specs.Tags.{Timer, H, HP, HV, DAT, RA, ACK, tagOf}
 use Rattle.connection.specs.Advance.{locked, moved}
 use Rattle.connection.specs.Actions.{lockingActions, movingActions, ordersOf}
 use Rattle.connection.specs.declared.Answer.the-variants.{Handled}
-use Rattle.connection.specs.declared.Connection.{Connection}
+use Rattle.record.specs.declared.Connection.{Connection}
 use Rattle.connection.specs.declared.Outcome.{Outcome}
-use Rattle.connection.specs.declared.reading.EventKind.{EventKind}
-use Rattle.connection.specs.declared.reading.EventKind.the-variants.{Plain, Tagged, HandshakeTimeout, Bit, Token}
-use Rattle.connection.specs.declared.reading.Input.{Input}
+use Rattle.event.specs.declared.Input.{Input}
 
 -- The effects on a timer: kept as it is; started; cancelled where it is known to run; ended by its own report; cancelled where it may be off.
 pub data Effect : Type 0 where
@@ -102,11 +100,3 @@ byLocking number connection code input = record {
 -- The events that are handled without a lock in some state.
 abbrev pub moving : List ℕ
 moving = 0 ∷ 2 ∷ 3 ∷ 4 ∷ 6 ∷ 7 ∷ 9 ∷ 11 ∷ 13 ∷ 14 ∷ 15 ∷ 16 ∷ 17 ∷ 18 ∷ 19 ∷ 21 ∷ 22 ∷ 23 ∷ []
-
--- The tag of a handshake timeout; 0 for another kind.
-abbrev pub timeoutTag : EventKind → ℕ
-timeoutTag Plain = 0
-timeoutTag (Tagged tag) = 0
-timeoutTag (HandshakeTimeout tag timer) = tag
-timeoutTag (Bit bit) = 0
-timeoutTag (Token verdict expiry now) = 0

@@ -6,15 +6,15 @@ use mathlib.Core.List.{List, [], _∷_}
 use lib.IntN.{ℤ, pos, negsuc}
 use lib.ListN.{getD, replicate}
 use Rattle.token.specs.SecondsLeft.{secondsLeft}
-use Rattle.connection.specs.Call.{Call, callOf}
-use Rattle.connection.specs.Limits.{limits}
+use Rattle.event.specs.Call.{Call, callOf}
+use Rattle.record.specs.Limits.{limits}
 use Rattle.connection.specs.Orders as order
 use Rattle.connection.specs.Run.{resultsOf}
 use Rattle.connection.specs.Step.{Result, unchanged}
-use Rattle.connection.specs.WellFormed.{fresh}
+use Rattle.record.specs.WellFormed.{fresh}
 use Rattle.connection.specs.declared.Answer.{Answer}
 use Rattle.connection.specs.declared.Answer.the-variants.{Handled, Ignored}
-use Rattle.connection.specs.declared.Event.{Event}
+use Rattle.event.specs.declared.Event.{Event}
 
 -- An event with these fields; the others are 0.
 abbrev pub event : (code tag bit : ℕ) (verdict : Bool) (expiry now : ℤ) → Event
@@ -91,7 +91,7 @@ pub data Case : Type 0 where
 
 -- The case holds of the definitions.
 unfoldable pub Holds : Case → Type 0
-Holds (call calls place t) = toldOf (getD (resultsOf limits fresh (replicate 4096 0) calls) place noResult) ≡ t
+Holds (call calls place t) = toldOf (getD (resultsOf limits fresh (replicate (limits .payload) 0) calls) place noResult) ≡ t
 Holds (left expiry now seconds) = secondsLeft expiry now ≡ seconds
 
 -- So do all of a list.

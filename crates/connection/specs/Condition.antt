@@ -5,9 +5,9 @@ use mathlib.Core.List.{List, [], _∷_}
 use lib.Dec.{eqb}
 use lib.ListN.{getD}
 use Rattle.table.specs.Table.{cell, settled}
-use Rattle.connection.specs.Timers.{Timer, H, HP, HV, DAT, RA, ACK, tagOf}
-use Rattle.connection.specs.declared.Connection.{Connection}
-use Rattle.connection.specs.declared.reading.Input.{Input}
+use Rattle.record.specs.Tags.{Timer, H, HP, HV, DAT, RA, ACK, tagOf}
+use Rattle.record.specs.declared.Connection.{Connection}
+use Rattle.event.specs.declared.Input.{Input}
 
 -- A condition: the event is live, the hello or the token is good, the bit is the expected one or the next-send bit of a waiting block; or there is none.
 pub data Condition : Type 0 where
@@ -51,7 +51,7 @@ meets connection input nothing = true
 unfoldable pub holds : Connection → (code : ℕ) → Input → Bool
 holds connection code input = meets connection input (conditionOf code (input .timer))
 
--- The state that follows, or 11: the event is ignored.
+-- The state that follows, or `ignored`.
 unfoldable pub nextState : Connection → (code : ℕ) → Input → ℕ
 nextState connection code input =
     settled (connection .«awaiting_ack») (cell (connection .state) code (holds connection code input))

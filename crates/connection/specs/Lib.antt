@@ -1,10 +1,6 @@
-pub mod Limits
 pub mod Orders
-pub mod Kind
-pub mod Call
 pub mod Timers
 pub mod Condition
-pub mod WellFormed
 pub mod Refusal
 pub mod Advance
 pub mod Actions

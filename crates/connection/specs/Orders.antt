@@ -49,7 +49,7 @@ start = 1
 abbrev pub stop : ℕ
 stop = 2
 
--- A driver is passed a message on.
+-- A message is passed on to a driver.
 abbrev pub forward : ℕ
 forward = 3
 

@@ -3,11 +3,12 @@ use Prim.Native.Nat.{ℕ, suc}
 use mathlib.Core.Bool.{Bool, not, _&&_, cond}
 use mathlib.Core.List.{List, [], _∷_, _++_}
 use lib.Dec.{eqb, ltb}
-use Rattle.connection.specs.Limits.{Limits}
+use Rattle.record.specs.Limits.{Limits}
+use Rattle.table.specs.Table.{ignored}
 use Rattle.connection.specs.Condition.{nextState}
-use Rattle.connection.specs.WellFormed.{wellFormed}
-use Rattle.connection.specs.declared.Connection.{Connection}
-use Rattle.connection.specs.declared.reading.Input.{Input}
+use Rattle.record.specs.WellFormed.{wellFormed}
+use Rattle.record.specs.declared.Connection.{Connection}
+use Rattle.event.specs.declared.Input.{Input}
 
 -- Faults 1 to 6: those of the arguments.
 abbrev pub argumentFaults : (code : ℕ) → Input → List Bool
@@ -25,7 +26,7 @@ abbrev pub faults : Limits → Connection → (code : ℕ) → Input → List Bo
 faults limits connection code input =
     argumentFaults code input
     ++ (not (wellFormed limits connection)
-    ∷ (not (eqb (nextState connection code input) 11) && eqb (connection .handled) (limits .handled))
+    ∷ (not (eqb (nextState connection code input) ignored) && eqb (connection .handled) (limits .handled))
     ∷ [])
 
 -- The number of the first fault that is present, counted from n; 0 if none is.

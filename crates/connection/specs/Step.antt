@@ -4,18 +4,19 @@ use mathlib.Core.Bool.{cond}
 use mathlib.Core.List.{List}
 use lib.Dec.{eqb}
 use lib.ListN.{length}
+use Rattle.table.specs.Table.{ignored}
 use Rattle.connection.specs.Condition.{nextState}
-use Rattle.connection.specs.Limits.{Limits}
-use Rattle.connection.specs.Call.{Call, inputOf}
+use Rattle.record.specs.Limits.{Limits}
+use Rattle.event.specs.Call.{Call, inputOf}
 use Rattle.connection.specs.Refusal.{refusal}
 use Rattle.connection.specs.Advance.{advance}
 use Rattle.connection.specs.Actions.{noActions, actionsOf}
 use Rattle.connection.specs.Block.{stored, partOf}
 use Rattle.connection.specs.declared.Answer.{Answer}
 use Rattle.connection.specs.declared.Answer.the-variants.{Handled, Ignored, Refused}
-use Rattle.connection.specs.declared.Connection.{Connection}
+use Rattle.record.specs.declared.Connection.{Connection}
 use Rattle.connection.specs.declared.Outcome.{Outcome}
-use Rattle.connection.specs.declared.reading.Input.{Input}
+use Rattle.event.specs.declared.Input.{Input}
 
 -- The paper's number for each answer: that of the refusal, 0 where there is none.
 abbrev pub refusalNumber : Answer → ℕ
@@ -35,11 +36,11 @@ handledTo to connection code input = record {
   actions = actionsOf connection code input to;
 }
 
--- Refused with the refusal's number, else ignored where the table has 11, else handled.
+-- Refused with the refusal's number, else ignored where the table says so, else handled.
 unfoldable pub decided : Limits → Connection → (code : ℕ) → Input → Outcome
 decided limits connection code input =
     cond (eqb (refusal limits connection code input) 0)
-    (cond (eqb (nextState connection code input) 11)
+    (cond (eqb (nextState connection code input) ignored)
     (unchanged Ignored connection)
     (handledTo (nextState connection code input) connection code input))
     (unchanged (Refused (refusal limits connection code input)) connection)
@@ -48,6 +49,11 @@ decided limits connection code input =
 abbrev pub stepOf : Limits → Connection → Call → (cacheLength : ℕ) → Outcome
 stepOf limits connection call cacheLength =
     decided limits connection (call .event .code) (inputOf limits call cacheLength)
+
+-- The refusal of a call, 0 for none.
+abbrev pub refusalOf : Limits → Connection → Call → (cacheLength : ℕ) → ℕ
+refusalOf limits connection call cacheLength =
+    refusal limits connection (call .event .code) (inputOf limits call cacheLength)
 
 -- Event 2 alone writes the cache, and only if it is handled.
 abbrev pub cacheAfter : Answer → Call → List ℕ → List ℕ
@@ -61,7 +67,7 @@ pub record Result : Type 0 where
   pub cache : List ℕ
   pub part : List ℕ
 
--- The part is that of the cache as it is then.
+-- The part is one of the payload, or of the cache as it is then.
 abbrev pub resultWith : Outcome → (payload cache : List ℕ) → Result
 resultWith outcome payload cache = record { outcome = outcome; cache = cache; part = partOf (outcome .actions) payload cache }
 

@@ -1,9 +1,10 @@
 // The conditions of the events.
 ghost use mathlib.Core.Path.{_≡_};
 ghost use Rattle.connection.specs.Condition as spec;
-ghost use Rattle.connection.specs.Timers.{tagOf};
-use crate::Connection;
-use crate::reading::Input;
+ghost use Rattle.record.specs.Tags.{tagOf};
+use event::Input;
+use event::timers;
+use record::Connection;
 use table::codes::ACK_TIMEOUT;
 use table::codes::DAT_TIMEOUT;
 use table::codes::HANDSHAKE_TIMEOUT;
@@ -24,13 +25,13 @@ fn live(tag: u32, own: u32) -> bool
     (tag != 0) & (tag == own)
 }
 
-// The record's tag of a handshake timer: 0 H, 1 HP, 2 HV.
+// The record's tag of a handshake timer.
 fn handshake_tag(connection: Connection, timer: u32) -> u32
     ensures { λ r. ⌜ r ≡ tagOf connection (spec.named timer) ⌝ }
 {
     match timer {
-        0 => connection.h,
-        1 => connection.prover,
+        timers::H => connection.h,
+        timers::HP => connection.prover,
         _ => connection.verifier,
     }
 }

@@ -4,25 +4,25 @@ ghost use mathlib.Core.Bool.{not};
 ghost use mathlib.Core.List.{_∷_, [], _++_};
 ghost use types.Run.{OneOf};
 ghost use Rattle.connection.specs.ByEvent.{moving, byEvent};
-ghost use Rattle.connection.specs.Limits.{limits};
+ghost use Rattle.record.specs.Limits.{limits};
 ghost use Rattle.connection.specs.Refusal.{firstFault, argumentFaults};
 ghost use Rattle.connection.specs.Step.{unchanged, decided};
-ghost use Rattle.connection.specs.WellFormed.{wellFormed};
+ghost use Rattle.record.specs.WellFormed.{wellFormed};
 use crate::Answer;
-use crate::Connection;
 use crate::Outcome;
 use crate::condition::holds;
 use crate::locking::lock;
 use crate::moves;
 use crate::moves::NO_ACTIONS;
-use crate::reading::Input;
-use crate::well_formed::well_formed;
+use crate::refusals;
+use event::Input;
+use event::timers;
+use record::Connection;
+use record::well_formed;
 use table::IGNORED;
 use table::codes;
 use table::next_state;
 use table::states;
-
-const MAX_TIMER: u32 = 2;
 
 const MAX_BIT: u32 = 1;
 
@@ -43,7 +43,7 @@ pub(crate) fn decide(connection: Connection, code: u32, input: Input) -> Outcome
     }
     let handled = connection.handled;
     if handled == MAX_HANDLED {
-        return unmoved(Answer::Refused(8), connection);
+        return unmoved(Answer::Refused(refusals::NUMBER_EXHAUSTED), connection);
     }
     let number = handled + 1;
     if to == states::CLOSED_LOCKED {
@@ -68,25 +68,25 @@ fn lowest_fault(connection: Connection, code: u32, input: Input) -> u32
     ensures { λ r. ⌜ r ≡ firstFault 1 (argumentFaults code input ++ (not (wellFormed limits connection) ∷ [])) ⌝ }
 {
     if code > codes::ACK_TIMEOUT {
-        return 1;
+        return refusals::UNKNOWN_CODE;
     }
-    if input.timer > MAX_TIMER {
-        return 2;
+    if input.timer > timers::HV {
+        return refusals::UNKNOWN_TIMER;
     }
     if input.bit > MAX_BIT {
-        return 3;
+        return refusals::WRONG_BIT;
     }
     if input.payload_too_long {
-        return 4;
+        return refusals::PAYLOAD_TOO_LONG;
     }
     if input.cache_too_short {
-        return 5;
+        return refusals::CACHE_TOO_SHORT;
     }
     if input.suites.too_long {
-        return 6;
+        return refusals::LIST_TOO_LONG;
     }
     if !well_formed(connection) {
-        return 7;
+        return refusals::NOT_WELL_FORMED;
     }
     0
 }
@@ -112,6 +112,7 @@ fn move_on(connection: Connection, code: u32, input: Input, to: u32, number: u32
         codes::SC_DAT_EXPIRED | codes::SC_RE_RA => {
             moves::prove_again(connection, code, input, to, number)
         }
+        // One arm each: as one they would be a range.
         codes::SC_RA_PROVER => moves::pass_on(connection, code, input, to, number),
         codes::SC_RA_VERIFIER => moves::pass_on(connection, code, input, to, number),
         codes::SC_DATA => moves::receive_data(connection, input, to, number),

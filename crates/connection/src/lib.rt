@@ -3,11 +3,11 @@
 // The host runs sockets, timers, attestation drivers and the check of a token's signature. It hands
 // in what happened, and carries out the actions that it gets back.
 ghost use mathlib.Core.Path.{_≡_};
-ghost use Rattle.connection.specs.Limits.{limits};
+ghost use Rattle.record.specs.Limits.{limits};
 ghost use Rattle.connection.specs.Block.{partOf};
-ghost use Rattle.connection.specs.Call.{callOf};
-ghost use Rattle.connection.specs.WellFormed as spec;
-ghost use Rattle.connection.specs.Step.{refusalNumber, resultOf};
+ghost use Rattle.event.specs.Call.{callOf};
+ghost use Rattle.connection.specs.Step.{refusalNumber, refusalOf, resultOf};
+ghost use lib.ListN.{length};
 
 mod block;
 mod condition;
@@ -15,49 +15,18 @@ mod judging;
 mod locking;
 mod moves;
 pub mod orders;
-mod reading;
-mod well_formed;
+pub mod refusals;
 
 use crate::block::front;
 use crate::block::store;
 use crate::judging::decide;
-use crate::reading::choose_suites;
-use crate::reading::read;
+pub use event::Event;
+use event::choose_suites;
+use event::read;
+pub use record::Connection;
+pub use record::fresh;
 pub use table::codes;
 pub use table::states;
-
-// The record of a connection. A tag is 0 when its driver or timer is off, else the number of the
-// handled event that started it.
-pub struct Connection {
-    pub state: u32,
-    // Document 01's ack flag: 1 while a block waits for its acknowledgement.
-    pub awaiting_ack: u32,
-    pub next_send_bit: u32,
-    pub expected_bit: u32,
-    pub cached_len: u32,
-    // The number of handled events.
-    pub handled: u32,
-    // Tags. The prover's is also its timer HP's, the verifier's also HV's.
-    pub h: u32,
-    pub prover: u32,
-    pub verifier: u32,
-    pub dat: u32,
-    pub ra: u32,
-    pub ack: u32,
-}
-
-// An event as the host hands it over. Only the fields that its code carries are read.
-pub struct Event {
-    pub code: u32,
-    pub tag: u32,
-    // Of a handshake timeout: 0 H, 1 HP, 2 HV.
-    pub timer: u32,
-    pub bit: u32,
-    // The host's verdict on the token, its expiry and the time now, in seconds.
-    pub verdict: bool,
-    pub expiry: i64,
-    pub now: i64,
-}
 
 // What the host is to do: document 01's order sheet. The numbers are in `orders`.
 pub struct Actions {
@@ -76,7 +45,7 @@ pub struct Actions {
     pub dat_seconds: u32,
     // The bit of a DATA or ACK.
     pub bit: u32,
-    // Whether the payload goes up to the application.
+    // Document 01's hand-up: whether the payload goes to the application.
     pub deliver: bool,
     // The chosen suites, where the connection opens.
     pub verifier_suite: u32,
@@ -108,33 +77,6 @@ pub struct Outcome {
     pub actions: Actions,
 }
 
-// The record of a new connection.
-pub fn fresh() -> Connection
-    ensures { λ r. ⌜ r ≡ spec.fresh ⌝ }
-{
-    cleared(states::CLOSED_UNLOCKED, 0)
-}
-
-// A record with a state and a number, all else 0.
-fn cleared(state: u32, handled: u32) -> Connection
-    ensures { λ r. ⌜ r ≡ spec.cleared state handled ⌝ }
-{
-    Connection {
-        state,
-        awaiting_ack: 0,
-        next_send_bit: 0,
-        expected_bit: 0,
-        cached_len: 0,
-        handled,
-        h: 0,
-        prover: 0,
-        verifier: 0,
-        dat: 0,
-        ra: 0,
-        ack: 0,
-    }
-}
-
 // One step. A handled `UPPER_SEND_DATA` stores its payload in the cache; nothing else writes it.
 pub fn step(
     connection: Connection,
@@ -147,6 +89,7 @@ pub fn step(
     cache: &mut [u8],
 ) -> Outcome
     ensures { λ r. ⌜ r ≡ resultOf limits connection (callOf event (now (payload .entry)) (now («our_verifiers» .entry)) (now («peer_provers» .entry)) (now («peer_verifiers» .entry)) (now («our_provers» .entry))) (now (cache .entry)) .outcome ⌝ }
+    ensures { λ r. ⌜ refusalNumber (r .answer) ≡ refusalOf limits connection (callOf event (now (payload .entry)) (now («our_verifiers» .entry)) (now («peer_provers» .entry)) (now («peer_verifiers» .entry)) (now («our_provers» .entry))) (length (now (cache .entry))) ⌝ }
     ensures { λ _. ⌜ now (cache .exit) ≡ resultOf limits connection (callOf event (now (payload .entry)) (now («our_verifiers» .entry)) (now («peer_provers» .entry)) (now («peer_verifiers» .entry)) (now («our_provers» .entry))) (now (cache .entry)) .cache ⌝ }
 {
     let code = event.code;

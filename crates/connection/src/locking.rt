@@ -4,14 +4,14 @@ ghost use mathlib.Core.Bool.{true, false};
 ghost use Rattle.connection.specs.Actions.{closing, stopped};
 ghost use Rattle.connection.specs.ByEvent.{byLocking};
 ghost use Rattle.connection.specs.Timers.{timerOrder};
-use crate::Actions;
 use crate::Answer;
-use crate::Connection;
 use crate::Outcome;
-use crate::cleared;
 use crate::moves::NO_ACTIONS;
 use crate::orders;
-use crate::reading::Input;
+use event::Input;
+use event::timers;
+use record::Connection;
+use record::cleared;
 use table::codes;
 use table::states;
 
@@ -48,7 +48,7 @@ fn cancel(reported: bool, tag: u32) -> u32
     }
 }
 
-// Stops every driver and cancels every timer that runs.
+// Stops every driver and cancels every timer that runs, but for the one that reports.
 pub(crate) fn lock(connection: Connection, code: u32, input: Input, number: u32) -> Outcome
     ensures { λ r. ⌜ r ≡ byLocking number connection code input ⌝ }
 {
@@ -59,9 +59,9 @@ pub(crate) fn lock(connection: Connection, code: u32, input: Input, number: u32)
     actions.message = closing_message(code);
     actions.prover = stop(proved, connection.prover);
     actions.verifier = stop(verified, connection.verifier);
-    actions.h = cancel(timeout & (input.timer == 0), connection.h);
-    actions.hp = cancel(timeout & (input.timer == 1), connection.prover);
-    actions.hv = cancel(timeout & (input.timer == 2), connection.verifier);
+    actions.h = cancel(timeout & (input.timer == timers::H), connection.h);
+    actions.hp = cancel(timeout & (input.timer == timers::HP), connection.prover);
+    actions.hv = cancel(timeout & (input.timer == timers::HV), connection.verifier);
     actions.dat = cancel(code == codes::DAT_TIMEOUT, connection.dat);
     actions.ra = cancel(code == codes::RA_TIMEOUT, connection.ra);
     actions.ack = cancel(code == codes::ACK_TIMEOUT, connection.ack);

@@ -1,5 +1,5 @@
-// Handled events that don't lock: one function for each row of the published table, with the record
-// and the actions of that row. What it doesn't set stays as it is.
+// Handled events that don't lock, event by event: the record after it, and its actions. What a
+// function doesn't set stays as it is.
 ghost use mathlib.Core.Path.{_≡_};
 ghost use mathlib.Core.Bool.{cond};
 ghost use mathlib.Core.List.{_∷_, []};
@@ -8,10 +8,10 @@ ghost use Rattle.connection.specs.Advance.{flipped};
 ghost use Rattle.connection.specs.ByEvent.{clear, orderBy, byEvent};
 use crate::Actions;
 use crate::Answer;
-use crate::Connection;
 use crate::Outcome;
 use crate::orders;
-use crate::reading::Input;
+use event::Input;
+use record::Connection;
 use table::codes;
 use table::states;
 
@@ -55,7 +55,7 @@ fn end(tag: u32) -> u32
     pick(tag == 0, orders::NONE, orders::CANCEL)
 }
 
-// UPPER_START_HANDSHAKE: greets the peer.
+// UPPER_START_HANDSHAKE: sends a hello.
 pub(crate) fn start_handshake(connection: Connection, input: Input, to: u32, number: u32) -> Outcome
     ensures { λ r. ⌜ r ≡ byEvent number connection 0 input to ⌝ }
 {
@@ -73,7 +73,7 @@ pub(crate) fn start_handshake(connection: Connection, input: Input, to: u32, num
     }
 }
 
-// A good SC_HELLO: opens the connection, with both drivers at work.
+// A good SC_HELLO: opens the connection and starts both drivers.
 pub(crate) fn open_connection(connection: Connection, input: Input, to: u32, number: u32) -> Outcome
     ensures { λ r. ⌜ r ≡ byEvent number connection 11 input to ⌝ }
 {
@@ -279,8 +279,8 @@ pub(crate) fn verify_again(
     }
 }
 
-// DAT_TIMEOUT: the peer has to send a fresh token, and is then verified anew. RA, if it runs in
-// WAIT_FOR_RA_PROVER, runs on.
+// DAT_TIMEOUT: the peer has to send a fresh token, and is then verified anew. In WAIT_FOR_RA_PROVER
+// RA runs on.
 pub(crate) fn expire_token(connection: Connection, input: Input, to: u32, number: u32) -> Outcome
     ensures { λ r. ⌜ r ≡ byEvent number connection 21 input to ⌝ }
 {

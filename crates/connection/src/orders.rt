@@ -31,6 +31,7 @@ pub const START: u32 = 1;
 
 pub const STOP: u32 = 2;
 
+// Document 01's "pass on".
 pub const FORWARD: u32 = 3;
 
 // To a timer alone.

@@ -1,4 +1,4 @@
--- Sets of states and of event codes, written as lists. Every section of document 01 has some.
+-- Sets of states and of event codes, written as lists.
 use Prim.Native.Nat.{ℕ}
 use mathlib.Core.Bool.{Bool, false, _||_}
 use mathlib.Core.List.{List, [], _∷_}

@@ -7,6 +7,14 @@ use mathlib.Core.List.{List, [], _∷_}
 use lib.Dec.{eqb}
 use lib.ListN.{getD}
 
+-- The number of the 7/8 branch.
+abbrev pub branch : ℕ
+branch = 10
+
+-- The number of an ignored event.
+abbrev pub ignored : ℕ
+ignored = 11
+
 -- A row: states 0 to 9 from left to right.
 abbrev pub row : ℕ → ℕ → ℕ → ℕ → ℕ → ℕ → ℕ → ℕ → ℕ → ℕ → List ℕ
 row a b c d e f g h i j = a ∷ b ∷ c ∷ d ∷ e ∷ f ∷ g ∷ h ∷ i ∷ j ∷ []
@@ -47,10 +55,10 @@ whenNot code =
     cond (eqb code 11) (row 11 09 11 11 11 11 11 11 11 11)
     (cond (eqb code 13) (row 11 11 11 11 11 09 09 11 11 11) [])
 
--- The cell of a state and a code. In a state that the table doesn't have, or at such a code, an event is ignored.
+-- The cell of a state and a code. In a state or at a code that the table doesn't have, an event is ignored.
 unfoldable pub cell : ℕ → ℕ → Bool → ℕ
-cell state code held = getD (cond held (getD whenHeld code []) (whenNot code)) state 11
+cell state code held = getD (cond held (getD whenHeld code []) (whenNot code)) state ignored
 
 -- The 7/8 branch, decided by the ack flag.
 abbrev pub settled : ℕ → ℕ → ℕ
-settled flag next = cond (eqb next 10) (cond (eqb flag 1) 8 7) next
+settled flag next = cond (eqb next branch) (cond (eqb flag 1) 8 7) next

@@ -1,4 +1,4 @@
-// The codes of the events, by the names of document 001.
+// The codes of the events, by document 01's names.
 
 pub const UPPER_START_HANDSHAKE: u32 = 0;
 

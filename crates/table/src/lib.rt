@@ -7,9 +7,10 @@ ghost use Rattle.table.specs.Report.{reported};
 pub mod codes;
 pub mod states;
 
-// ESTABLISHED or WAIT_FOR_ACK, as the ack flag has it.
+// Document 01's "7/8": WAIT_FOR_ACK if the ack flag is set, else ESTABLISHED.
 const SETTLED: u32 = 10;
 
+// Document 01's "-".
 pub const IGNORED: u32 = 11;
 
 // The state that follows, or `IGNORED`.
@@ -67,7 +68,7 @@ fn bad_token(state: u32) -> u32
     }
 }
 
-// Where it holds.
+// Where the condition holds.
 fn when_held(state: u32, code: u32) -> u32
     ensures { λ r. ⌜ r ≡ cell state code true ⌝ }
 {

@@ -1,4 +1,4 @@
-// The states, by the names of document 001.
+// The states, by document 01's names.
 
 pub const CLOSED_UNLOCKED: u32 = 0;
 

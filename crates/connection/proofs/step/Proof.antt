@@ -5,14 +5,15 @@ use Prim.Native.Nat.{ℕ}
 use lib.ListN.{length}
 use denote.Ref.{now}
 use borrow.Author.Needs.{needs}
-use Rattle.connection.specs.Call.{Call, callOf, inputBy}
-use Rattle.connection.specs.Limits.{limits}
-use Rattle.connection.specs.Step.{decided, stepOf, cacheAfter, resultOf}
+use Rattle.event.specs.Call.{Call, callOf, inputBy, inputOf}
+use Rattle.record.specs.Limits.{limits}
+use Rattle.connection.specs.Step.{refusalNumber, decided, stepOf, refusalOf, cacheAfter, resultOf}
 use Rattle.connection.specs.declared.Answer.{Answer}
 use Rattle.connection.specs.declared.Answer.the-variants.{Handled}
 use Rattle.connection.specs.declared.Outcome.{Outcome}
-use Rattle.connection.specs.declared.reading.Input.{Input}
-use Rattle.connection.specs.declared.reading.Suites.{Suites}
+use Rattle.event.specs.declared.Input.{Input}
+use Rattle.event.specs.declared.Suites.{Suites}
+use Rattle.connection.proofs.Decided.{number-is}
 use Rattle.connection.proofs.Cache.{room-for, kept, written, unwritten}
 use Rattle.connection.proofs.step.Statement.{statement}
 use Rattle.connection.proofs.step.Tie as tie
@@ -38,12 +39,19 @@ stepped c =
 cached : (c : tie.After-decide) (x : Answer) (cache : List ℕ) → x ≡ c .decide .result .answer → cacheAfter x (call-of c) cache ≡ cacheAfter (stepOf limits (c .before .before .before .before .before .before .before .before .before .args .connection) (call-of c) (length (now (c .before .before .before .before .before .before .before .before .before .args .cache))) .answer) (call-of c) cache
 cached c x cache e = ap (λ (y : Answer). cacheAfter y (call-of c) cache) (e ∙ ap (λ (o : Outcome). o .answer) (stepped c))
 
+-- Its answer has the number of the refusal.
+numbered : (c : tie.After-decide) → refusalNumber (c .decide .result .answer) ≡ refusalOf limits (c .before .before .before .before .before .before .before .before .before .args .connection) (call-of c) (length (now (c .before .before .before .before .before .before .before .before .before .args .cache)))
+unfolding call-of
+numbered c =
+    let a = c .before .before .before .before .before .before .before .before .before .args in
+    ap (λ (o : Outcome). refusalNumber (o .answer)) (stepped c) ∙ number-is limits (a .connection) (a .event .code) (inputOf limits (call-of c) (length (now (a .cache))))
+
 returns : tie.Need-returns
 unfolding resultOf call-of
 returns c =
     let d = c .before in
     let k = now (c .before .before .before .before .before .before .before .before .before .before .args .cache) in
-    (stepped d, kept (call-of d) k (d .decide .result .answer) (c .match .keys2) ∙ cached d (d .decide .result .answer) k refl)
+    (stepped d, (numbered d, kept (call-of d) k (d .decide .result .answer) (c .match .keys2) ∙ cached d (d .decide .result .answer) k refl))
 
 store-requires : tie.Need-store-requires
 unfolding call-of
@@ -57,14 +65,14 @@ unfolding resultOf call-of
 returns-2 c =
     let d = c .before .before .before .before .before .before .before in
     let k = now (d .before .before .before .before .before .before .before .before .before .args .cache) in
-    (stepped d, c .before .before .store .ensures ∙ written (call-of d) k (c .before .before .before .before .if1 .taken) ∙ cached d Handled k (sym (c .before .before .before .before .before .enum-told .given .1)))
+    (stepped d, (numbered d, c .before .before .store .ensures ∙ written (call-of d) k (c .before .before .before .before .if1 .taken) ∙ cached d Handled k (sym (c .before .before .before .before .before .enum-told .given .1))))
 
 returns-3 : tie.Need-returns-3
 unfolding resultOf call-of
 returns-3 c =
     let d = c .before .before .before in
     let k = now (d .before .before .before .before .before .before .before .before .before .args .cache) in
-    (stepped d, unwritten (call-of d) k (c .if1 .left) ∙ cached d Handled k (sym (c .before .enum-told .given .1)))
+    (stepped d, (numbered d, unwritten (call-of d) k (c .if1 .left) ∙ cached d Handled k (sym (c .before .enum-told .given .1))))
 
 pub step-spec : {M : Type 1} → statement M
 step-spec =

@@ -7,8 +7,8 @@ use native.Mathlib.Omega.{arith}
 use lib.ListN.{List·getD-eq-default}
 use borrow.Author.Needs.{needs}
 use Rattle.connection.specs.Condition.{nothing, conditions, isLive, holds}
-use Rattle.connection.specs.declared.Connection.{Connection}
-use Rattle.connection.specs.declared.reading.Input.{Input}
+use Rattle.record.specs.declared.Connection.{Connection}
+use Rattle.event.specs.declared.Input.{Input}
 use Rattle.table.proofs.Arms.{in-range, from}
 use Rattle.connection.proofs.condition.holds.Statement.{statement}
 use Rattle.connection.proofs.condition.holds.Tie as tie

@@ -6,11 +6,11 @@ use native.Mathlib.Omega.{arith}
 use lib.Dec.{T}
 use borrow.Author.Needs.{needs}
 use borrow.Author.Tests.{eq-eqb, ne-eqb, ltb-false, not-false}
-use Rattle.connection.specs.Limits.{limits}
+use Rattle.record.specs.Limits.{limits}
 use Rattle.connection.specs.Condition.{nextState}
 use Rattle.connection.specs.Step.{handledTo, decided}
 use Rattle.table.specs.Table.{cell, settled}
-use Rattle.connection.specs.WellFormed.{wellFormed}
+use Rattle.record.specs.WellFormed.{wellFormed}
 use Rattle.connection.proofs.Decided as judged
 use Rattle.connection.proofs.Effects.{is-moving, by-event, by-locking}
 use Rattle.connection.proofs.judging.decide.Statement.{statement}

@@ -1,0 +1,16 @@
+-- `event::timer_in` meets its contract.
+use mathlib.Core.Path.{refl}
+use mathlib.Core.List.{[], _∷_}
+use borrow.Author.Needs.{needs}
+use Rattle.event.specs.Kind.{fieldsOf}
+use Rattle.event.proofs.Opening.{alike}
+use Rattle.event.proofs.timer_in.Statement.{statement}
+use Rattle.event.proofs.timer_in.Tie as tie
+
+pub timer-in-spec : {M : Type 1} → statement M
+timer-in-spec =
+    tie.close
+    (tie.spec
+    (λ c. search needs)
+    (λ c. alike (λ kind. 0) (λ kind. fieldsOf kind .timer) (0 ∷ 1 ∷ 3 ∷ 4 ∷ []) (refl, (λ tag. refl, (λ bit. refl, λ verdict expiry now. refl))) (c .before .args .kind) (c .match .keys2))
+    (λ c. search needs))

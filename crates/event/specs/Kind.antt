@@ -1,0 +1,55 @@
+-- Document 01, "What the machine covers" and "Shortcuts that look right": the kind of an event, which its code fixes.
+-- A field is read only from the kind that carries it. Payload and suite lists are slices: see `Call`.
+use Prim.Native.Nat.{ℕ}
+use mathlib.Core.Bool.{Bool, false}
+use mathlib.Core.List.{List, [], _∷_}
+use lib.ListN.{getD}
+use Rattle.token.specs.SecondsLeft.{secondsLeft}
+use Rattle.token.specs.Good.{good, goodSeconds}
+use Rattle.event.specs.declared.Event.{Event}
+use Rattle.event.specs.declared.EventKind.{EventKind}
+use Rattle.event.specs.declared.EventKind.the-variants.{Plain, Tagged, HandshakeTimeout, Bit, Token}
+
+-- The kinds of codes 0 to 23: 4 to 9 and 20 to 23 carry a tag, 20 also the name of its timer, 18 and 19 a bit, 11 and 13 a token.
+abbrev pub kinds : Event → List EventKind
+kinds event =
+    let tagged = Tagged (event .tag) in
+    let timeout = HandshakeTimeout (event .tag) (event .timer) in
+    let bit = Bit (event .bit) in
+    let token = Token (event .verdict) (event .expiry) (event .now) in
+    Plain ∷ Plain ∷ Plain ∷ Plain  -- 0 to 3
+    ∷ tagged ∷ tagged ∷ tagged ∷ tagged ∷ tagged ∷ tagged  -- 4 to 9
+    ∷ Plain ∷ token ∷ Plain ∷ token  -- 10 to 13
+    ∷ Plain ∷ Plain ∷ Plain ∷ Plain  -- 14 to 17
+    ∷ bit ∷ bit  -- 18, 19
+    ∷ timeout ∷ tagged ∷ tagged ∷ tagged  -- 20 to 23
+    ∷ []
+
+-- The kind of a code; above 23 there is nothing to read.
+abbrev pub kindAt : (code : ℕ) → Event → EventKind
+kindAt code event = getD (kinds event) code Plain
+
+-- The kind of an event.
+unfoldable pub kindOf : Event → EventKind
+kindOf event = kindAt (event .code) event
+
+-- The fields of an event, whether its token is good, and the seconds left of a good token.
+pub record Fields : Type 0 where
+  pub tag : ℕ
+  pub timer : ℕ
+  pub bit : ℕ
+  pub isGood : Bool
+  pub seconds : ℕ
+
+-- The fields in their order.
+abbrev pub fields : (tag timer bit : ℕ) (isGood : Bool) (seconds : ℕ) → Fields
+fields tag timer bit isGood seconds = record { tag = tag; timer = timer; bit = bit; isGood = isGood; seconds = seconds }
+
+-- The fields that a kind carries. The others are not read: they count as 0, and there is no good token.
+abbrev pub fieldsOf : EventKind → Fields
+fieldsOf Plain = fields 0 0 0 false 0
+fieldsOf (Tagged tag) = fields tag 0 0 false 0
+fieldsOf (HandshakeTimeout tag timer) = fields tag timer 0 false 0
+fieldsOf (Bit bit) = fields 0 0 bit false 0
+fieldsOf (Token verdict expiry now) =
+    fields 0 0 0 (good verdict (secondsLeft expiry now)) (goodSeconds verdict (secondsLeft expiry now))
