@@ -1,10 +1,10 @@
 // The boot run of document 01: after each call a line with the state and the number of handled events.
 use connection::Connection;
 use connection::Event;
+use connection::codes;
 use connection::fresh;
 use connection::step;
 use libc::STDOUT_FILENO;
-use table::codes;
 
 const NOW: i64 = 1_000;
 

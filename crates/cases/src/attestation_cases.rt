@@ -10,7 +10,7 @@ use crate::records::PROVER_RUNS;
 use crate::records::READY;
 use crate::records::VERIFIER_RUNS;
 use crate::records::WAITING;
-use table::codes;
+use connection::codes;
 
 pub(crate) fn run() {
     reports();

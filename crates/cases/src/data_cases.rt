@@ -11,7 +11,7 @@ use crate::records::LOCKED;
 use crate::records::PROVER_RUNS;
 use crate::records::READY;
 use crate::records::WAITING;
-use table::codes;
+use connection::codes;
 
 pub(crate) fn run() {
     sending();

@@ -1,6 +1,6 @@
 // Events as a host hands them over; the fields that an event doesn't carry are 0.
 use connection::Event;
-use table::codes;
+use connection::codes;
 
 const NOW: i64 = 1_000;
 

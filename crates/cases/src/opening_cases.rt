@@ -9,7 +9,8 @@ use crate::records::EXPIRED;
 use crate::records::FRESH;
 use crate::records::GREETED;
 use crate::records::READY;
-use table::codes;
+use connection::codes;
+use connection::timers;
 
 pub(crate) fn run() {
     opening();
@@ -58,20 +59,35 @@ fn opening() {
 
 fn handshake_timeouts() {
     print::heading(b"step: handshake timeouts");
-    show(b"H reports and gets no cancel", GREETED, timeout(0, 1), &[]);
+    show(
+        b"H reports and gets no cancel",
+        GREETED,
+        timeout(timers::H, 1),
+        &[],
+    );
     show(
         b"HP reports, its driver is stopped",
         BOTH_RUN,
-        timeout(1, 7),
+        timeout(timers::HP, 7),
         &[],
     );
     show(
         b"HV reports, its driver is stopped",
         BOTH_RUN,
-        timeout(2, 8),
+        timeout(timers::HV, 8),
         &[],
     );
-    show(b"H reports while RA runs on", EXPIRED, timeout(0, 9), &[]);
-    show(b"another tag is not live", BOTH_RUN, timeout(1, 8), &[]);
-    show(b"tag 0 is not live", READY, timeout(0, 0), &[]);
+    show(
+        b"H reports while RA runs on",
+        EXPIRED,
+        timeout(timers::H, 9),
+        &[],
+    );
+    show(
+        b"another tag is not live",
+        BOTH_RUN,
+        timeout(timers::HP, 8),
+        &[],
+    );
+    show(b"tag 0 is not live", READY, timeout(timers::H, 0), &[]);
 }

@@ -15,7 +15,7 @@ use crate::records::READY;
 use crate::records::READY_AT_LIMIT;
 use crate::records::READY_WITHOUT_RA;
 use crate::records::WAITING;
-use table::codes;
+use connection::codes;
 
 pub(crate) fn run() {
     limits();

@@ -9,7 +9,7 @@ use crate::records::EXPIRED_PROVED;
 use crate::records::PROVER_RUNS;
 use crate::records::READY;
 use crate::records::WAITING;
-use table::codes;
+use connection::codes;
 
 pub(crate) fn run() {
     expiry();

@@ -1,4 +1,4 @@
--- Document 01, "Order sheet": numbers for its slots. The paper names the orders; the numbers are ours, and those of the messages are request #101's.
+-- Document 01, "Order sheet": numbers for its slots. The paper names the orders; the messages' numbers are request #101's, the others ours.
 use Prim.Native.Nat.{ℕ}
 
 -- No message, no order, no payload.

@@ -33,7 +33,7 @@ pub(crate) fn decide(connection: Connection, code: u32, input: Input) -> Outcome
     ensures { λ r. ⌜ r ≡ decided limits connection code input ⌝ }
 {
     let fault = lowest_fault(connection, code, input);
-    if fault != 0 {
+    if fault != refusals::NONE {
         return unmoved(Answer::Refused(fault), connection);
     }
     let held = holds(connection, code, input);
@@ -88,7 +88,7 @@ fn lowest_fault(connection: Connection, code: u32, input: Input) -> u32
     if !well_formed(connection) {
         return refusals::NOT_WELL_FORMED;
     }
-    0
+    refusals::NONE
 }
 
 // A handled event that doesn't lock.
@@ -112,7 +112,7 @@ fn move_on(connection: Connection, code: u32, input: Input, to: u32, number: u32
         codes::SC_DAT_EXPIRED | codes::SC_RE_RA => {
             moves::prove_again(connection, code, input, to, number)
         }
-        // One arm each: as one they would be a range.
+        // One arm each: as one they would compile to a range, and `_` to two parts.
         codes::SC_RA_PROVER => moves::pass_on(connection, code, input, to, number),
         codes::SC_RA_VERIFIER => moves::pass_on(connection, code, input, to, number),
         codes::SC_DATA => moves::receive_data(connection, input, to, number),

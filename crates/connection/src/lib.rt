@@ -23,6 +23,7 @@ use crate::judging::decide;
 pub use event::Event;
 use event::choose_suites;
 use event::read;
+pub use event::timers;
 pub use record::Connection;
 pub use record::fresh;
 pub use table::codes;
@@ -50,7 +51,7 @@ pub struct Actions {
     // The chosen suites, where the connection opens.
     pub verifier_suite: u32,
     pub prover_suite: u32,
-    // The slice that the payload is a part of, and its length.
+    // The slice that the payload is a part of, and the payload's length.
     pub payload_slice: u32,
     pub payload_len: u32,
 }
@@ -66,7 +67,7 @@ pub fn refusal_number(answer: Answer) -> u32
     ensures { λ r. ⌜ r ≡ refusalNumber answer ⌝ }
 {
     let Answer::Refused(number) = answer else {
-        return 0;
+        return refusals::NONE;
     };
     number
 }

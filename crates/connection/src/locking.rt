@@ -15,7 +15,7 @@ use record::cleared;
 use table::codes;
 use table::states;
 
-// CLOSE, but none to an error or to the peer's own close.
+// CLOSE, but no message at an error or at the peer's own close.
 fn closing_message(code: u32) -> u32
     ensures { λ r. ⌜ r ≡ closing code ⌝ }
 {
@@ -26,7 +26,7 @@ fn closing_message(code: u32) -> u32
     }
 }
 
-// The order to a running driver, unless it has reported OK or FAILED.
+// A stop for a running driver, unless it has reported OK or FAILED.
 fn stop(reported: bool, tag: u32) -> u32
     ensures { λ r. ⌜ r ≡ stopped reported tag ⌝ }
 {
@@ -37,7 +37,7 @@ fn stop(reported: bool, tag: u32) -> u32
     }
 }
 
-// The order to a running timer, unless this event reports it.
+// A cancel for a running timer, unless this event reports it.
 fn cancel(reported: bool, tag: u32) -> u32
     ensures { λ r. ⌜ r ≡ timerOrder false true reported tag ⌝ }
 {

@@ -1,5 +1,5 @@
-// Handled events that don't lock, event by event: the record after it, and its actions. What a
-// function doesn't set stays as it is.
+// Handled events that don't lock: for each the record after it and its actions. What a function
+// doesn't set stays as it is.
 ghost use mathlib.Core.Path.{_≡_};
 ghost use mathlib.Core.Bool.{cond};
 ghost use mathlib.Core.List.{_∷_, []};
@@ -196,7 +196,7 @@ pub(crate) fn pass_on(
     }
 }
 
-// SC_DAT_EXPIRED and SC_RE_RA: we prove ourselves again, to the former with a fresh token.
+// SC_DAT_EXPIRED and SC_RE_RA: we prove ourselves again; SC_DAT_EXPIRED also gets a fresh token.
 pub(crate) fn prove_again(
     connection: Connection,
     code: u32,

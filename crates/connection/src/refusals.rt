@@ -1,5 +1,8 @@
 // The numbers of the refusals.
 
+// No refusal.
+pub const NONE: u32 = 0;
+
 pub const UNKNOWN_CODE: u32 = 1;
 
 pub const UNKNOWN_TIMER: u32 = 2;

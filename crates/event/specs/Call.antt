@@ -13,7 +13,7 @@ use Rattle.event.specs.declared.Event.{Event}
 use Rattle.event.specs.declared.Suites.{Suites}
 use Rattle.event.specs.declared.Input.{Input}
 
--- One call: the event, its payload and the four suite lists. The record and the cache stand apart.
+-- One call: the event, its payload and the four suite lists. The record and the cache are not in it.
 pub record Call : Type 0 where
   pub event : Event
   pub payload : List ℕ
@@ -59,9 +59,9 @@ suitesOf code ourVerifiers peerProvers peerVerifiers ourProvers =
 
 -- The length of a payload. One that is too long counts as 0: its event is refused, or carries no payload and this is not used.
 abbrev pub shortLength : Limits → ℕ → ℕ
-shortLength limit size = cond (ltb (limit .payload) size) 0 size
+shortLength limits size = cond (ltb (limits .payload) size) 0 size
 
--- What the step reads, beside the code: the fields by the event's kind, the lengths of payload and cache, the suites.
+-- What the step reads, besides the code: the fields by the event's kind, the lengths of payload and cache, the suites.
 unfoldable pub inputBy : Limits → Event → (payloadLength cacheLength : ℕ) → Suites → Input
 inputBy limits event payloadLength cacheLength suites = record {
   tag = fieldsOf (kindOf event) .tag;

@@ -43,7 +43,7 @@ pub struct Event {
     pub now: i64,
 }
 
-// What events carry beside their payload and their suite lists.
+// What events carry besides their payload and their suite lists.
 pub enum EventKind {
     Plain,
     Tagged(u32),
@@ -74,7 +74,7 @@ const NO_SUITES: Suites = Suites {
     prover: 0,
 };
 
-// What the step reads of a call, beside the code.
+// What the step reads of a call, besides the code.
 pub struct Input {
     pub tag: u32,
     pub timer: u32,

@@ -5,7 +5,7 @@ use mathlib.Core.List.{[], _∷_}
 use Rattle.table.specs.Sets.{isIn}
 use Rattle.record.specs.declared.Connection.{Connection}
 
--- The timers. A driver goes by its timer: the prover by HP, the verifier by HV.
+-- The timers. A driver is named by its timer: the prover by HP, the verifier by HV.
 pub data Timer : Type 0 where
   H HP HV DAT RA ACK : Timer
 
@@ -31,7 +31,7 @@ runsIn ACK = isIn (8 ∷ [])
 abbrev pub raMayRun : ℕ → Bool
 raMayRun = isIn (5 ∷ 6 ∷ [])
 
--- RA starts and ends by rules of its own, the other five by their states.
+-- Whether a timer is RA, which starts and ends by rules of its own; the other five go by their states.
 abbrev pub isRa : Timer → Bool
 isRa H = false
 isRa HP = false

@@ -1,11 +1,11 @@
-// What flag, bits and tags of a well-formed record are in each state.
+// What number, flag, bits and tags of a well-formed record are in each state.
 ghost use mathlib.Core.Path.{_≡_};
 ghost use lib.Dec.{T, leb};
 ghost use Rattle.record.specs.WellFormed.{fitsState};
 use crate::Connection;
 use table::states;
 
-// Flag, bits and tags as the state has them.
+// Whether number, flag, bits and tags are those of the state.
 pub(crate) fn fits_state(c: Connection) -> bool
     requires { ⌜ T (leb (c .state) 9) ⌝ }
     ensures { λ r. ⌜ r ≡ fitsState (c .state) c ⌝ }

@@ -68,7 +68,7 @@ pub fn well_formed(connection: Connection) -> bool
     fits_state(connection)
 }
 
-// The ranges of state, flag, bits and length.
+// The ranges of state, flag, bits and length, and no length without the flag.
 fn fields_fit(c: Connection) -> bool
     ensures { λ r. ⌜ r ≡ spec.fieldsFit limits c ⌝ }
 {

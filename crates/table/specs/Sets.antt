@@ -1,4 +1,4 @@
--- Sets of states and of event codes, written as lists.
+-- Sets of states and of event codes, as document 01 writes them: lists of numbers.
 use Prim.Native.Nat.{ℕ}
 use mathlib.Core.Bool.{Bool, false, _||_}
 use mathlib.Core.List.{List, [], _∷_}

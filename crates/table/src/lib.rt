@@ -8,7 +8,7 @@ pub mod codes;
 pub mod states;
 
 // Document 01's "7/8": WAIT_FOR_ACK if the ack flag is set, else ESTABLISHED.
-const SETTLED: u32 = 10;
+const BRANCH: u32 = 10;
 
 // Document 01's "-".
 pub const IGNORED: u32 = 11;
@@ -18,7 +18,7 @@ pub fn next_state(state: u32, awaiting_ack: u32, code: u32, held: bool) -> u32
     ensures { λ r. ⌜ r ≡ settled «awaiting_ack» (cell state code held) ⌝ }
 {
     let next = follow(state, code, held);
-    if next != SETTLED {
+    if next != BRANCH {
         return next;
     }
     if awaiting_ack == 1 {
@@ -144,7 +144,7 @@ fn in_wait_for_ra_prover(code: u32) -> u32
     match code {
         codes::UPPER_RE_RA | codes::RA_TIMEOUT => states::WAIT_FOR_RA,
         codes::RA_PROVER_OK..=codes::RA_PROVER_MSG => {
-            report(code, SETTLED, states::WAIT_FOR_RA_PROVER)
+            report(code, BRANCH, states::WAIT_FOR_RA_PROVER)
         }
         codes::SC_DAT_EXPIRED | codes::SC_RE_RA => states::WAIT_FOR_RA_PROVER,
         codes::SC_RA_VERIFIER | codes::SC_ACK => states::WAIT_FOR_RA_PROVER,
@@ -161,7 +161,7 @@ fn in_wait_for_ra_verifier(code: u32) -> u32
 {
     match code {
         codes::RA_VERIFIER_OK..=codes::RA_VERIFIER_MSG => {
-            report(code, SETTLED, states::WAIT_FOR_RA_VERIFIER)
+            report(code, BRANCH, states::WAIT_FOR_RA_VERIFIER)
         }
         codes::SC_DAT_EXPIRED | codes::SC_RE_RA => states::WAIT_FOR_RA,
         codes::SC_RA_PROVER | codes::SC_ACK => states::WAIT_FOR_RA_VERIFIER,
