@@ -64,10 +64,6 @@ no-cancel : (r : Bool) → _≡_ {A = ℕ} 0 (cond (not r && false) 2 0)
 no-cancel true = refl
 no-cancel false = refl
 
-other : (b : Bool) → _≡_ {A = ℕ} (cond b 0 2) (cond (not b) 2 0)
-other true = refl
-other false = refl
-
 order-fits : (x : Effect) (s e r off on : Bool) (tag : ℕ) → (T off → tag ≡ 0) → (T on → eqb tag 0 ≡ false) → T (fits x s e r off on) → orderBy x tag ≡ timerOrder s e r tag
 order-fits keep true e r off on t z o f = absurd f
 order-fits keep false true r true on t z o f = rw (z tt) (no-cancel r)
@@ -87,7 +83,7 @@ order-fits expire false false r off on t z o f = absurd f
 order-fits clear true e r off on t z o f = absurd f
 order-fits clear false true true true on t z o f = rw (z tt)
 order-fits clear false true true false on t z o f = absurd f
-order-fits clear false true false off on t z o f = other (eqb t 0)
+order-fits clear false true false off on t z o f = refl
 order-fits clear false false r true on t z o f = rw (z tt)
 order-fits clear false false r false on t z o f = absurd f
 

@@ -1,13 +1,14 @@
 -- The step event by event, as the code has it. No definition rests on this file: private functions promise it,
 -- and the proofs show that it is what the rules say.
 use Prim.Native.Nat.{ℕ}
-use mathlib.Core.Bool.{cond}
+use mathlib.Core.Bool.{true, false, cond}
 use mathlib.Core.List.{List, [], _∷_}
 use lib.Dec.{eqb}
 use lib.ListN.{getD}
 use Rattle.connection.specs.Orders as order
 use Rattle.table.specs.Sets.{isIn}
 use Rattle.record.specs.Tags.{Timer, H, HP, HV, DAT, RA, ACK, tagOf}
+use Rattle.connection.specs.Timers.{timerOrder}
 use Rattle.connection.specs.Advance.{locked, moved}
 use Rattle.connection.specs.Actions.{lockingActions, movingActions, ordersOf}
 use Rattle.connection.specs.declared.Answer.the-variants.{Handled}
@@ -77,7 +78,7 @@ orderBy keep tag = order.none
 orderBy start tag = order.start
 orderBy cancel tag = order.cancel
 orderBy expire tag = order.none
-orderBy clear tag = cond (eqb tag 0) order.none order.cancel
+orderBy clear tag = timerOrder false true false tag
 
 -- A handled event that doesn't lock.
 abbrev pub byEvent : (number : ℕ) → Connection → (code : ℕ) → Input → (to : ℕ) → Outcome

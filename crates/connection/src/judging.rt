@@ -13,7 +13,7 @@ use crate::Outcome;
 use crate::condition::holds;
 use crate::locking::lock;
 use crate::moves;
-use crate::moves::NO_ACTIONS;
+use crate::orders;
 use crate::refusals;
 use event::Input;
 use event::timers;
@@ -59,7 +59,7 @@ fn unmoved(answer: Answer, connection: Connection) -> Outcome
     Outcome {
         answer,
         connection,
-        actions: NO_ACTIONS,
+        actions: orders::NO_ACTIONS,
     }
 }
 

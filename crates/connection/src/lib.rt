@@ -56,6 +56,7 @@ pub struct Actions {
     pub payload_len: u32,
 }
 
+// What became of an event.
 pub enum Answer {
     Handled,
     Ignored,
@@ -72,6 +73,7 @@ pub fn refusal_number(answer: Answer) -> u32
     number
 }
 
+// What a step gives back.
 pub struct Outcome {
     pub answer: Answer,
     pub connection: Connection,

@@ -1,12 +1,9 @@
 // Handled events that lock the connection.
 ghost use mathlib.Core.Path.{_≡_};
-ghost use mathlib.Core.Bool.{true, false};
-ghost use Rattle.connection.specs.Actions.{closing, stopped};
+ghost use Rattle.connection.specs.Actions.{closing};
 ghost use Rattle.connection.specs.ByEvent.{byLocking};
-ghost use Rattle.connection.specs.Timers.{timerOrder};
 use crate::Answer;
 use crate::Outcome;
-use crate::moves::NO_ACTIONS;
 use crate::orders;
 use event::Input;
 use event::timers;
@@ -26,28 +23,6 @@ fn closing_message(code: u32) -> u32
     }
 }
 
-// A stop for a running driver, unless it has reported OK or FAILED.
-fn stop(reported: bool, tag: u32) -> u32
-    ensures { λ r. ⌜ r ≡ stopped reported tag ⌝ }
-{
-    if !reported & (tag != 0) {
-        orders::STOP
-    } else {
-        orders::NONE
-    }
-}
-
-// A cancel for a running timer, unless this event reports it.
-fn cancel(reported: bool, tag: u32) -> u32
-    ensures { λ r. ⌜ r ≡ timerOrder false true reported tag ⌝ }
-{
-    if !reported & (tag != 0) {
-        orders::CANCEL
-    } else {
-        orders::NONE
-    }
-}
-
 // Stops every driver and cancels every timer that runs, but for the one that reports.
 pub(crate) fn lock(connection: Connection, code: u32, input: Input, number: u32) -> Outcome
     ensures { λ r. ⌜ r ≡ byLocking number connection code input ⌝ }
@@ -55,16 +30,16 @@ pub(crate) fn lock(connection: Connection, code: u32, input: Input, number: u32)
     let timeout = code == codes::HANDSHAKE_TIMEOUT;
     let proved = (code == codes::RA_PROVER_OK) | (code == codes::RA_PROVER_FAILED);
     let verified = (code == codes::RA_VERIFIER_OK) | (code == codes::RA_VERIFIER_FAILED);
-    let mut actions = NO_ACTIONS;
+    let mut actions = orders::NO_ACTIONS;
     actions.message = closing_message(code);
-    actions.prover = stop(proved, connection.prover);
-    actions.verifier = stop(verified, connection.verifier);
-    actions.h = cancel(timeout & (input.timer == timers::H), connection.h);
-    actions.hp = cancel(timeout & (input.timer == timers::HP), connection.prover);
-    actions.hv = cancel(timeout & (input.timer == timers::HV), connection.verifier);
-    actions.dat = cancel(code == codes::DAT_TIMEOUT, connection.dat);
-    actions.ra = cancel(code == codes::RA_TIMEOUT, connection.ra);
-    actions.ack = cancel(code == codes::ACK_TIMEOUT, connection.ack);
+    actions.prover = orders::stop(proved, connection.prover);
+    actions.verifier = orders::stop(verified, connection.verifier);
+    actions.h = orders::cancel(timeout & (input.timer == timers::H), connection.h);
+    actions.hp = orders::cancel(timeout & (input.timer == timers::HP), connection.prover);
+    actions.hv = orders::cancel(timeout & (input.timer == timers::HV), connection.verifier);
+    actions.dat = orders::cancel(code == codes::DAT_TIMEOUT, connection.dat);
+    actions.ra = orders::cancel(code == codes::RA_TIMEOUT, connection.ra);
+    actions.ack = orders::cancel(code == codes::ACK_TIMEOUT, connection.ack);
     Outcome {
         answer: Answer::Handled,
         connection: cleared(states::CLOSED_LOCKED, number),

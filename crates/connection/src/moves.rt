@@ -5,8 +5,7 @@ ghost use mathlib.Core.Bool.{cond};
 ghost use mathlib.Core.List.{_∷_, []};
 ghost use types.Run.{OneOf};
 ghost use Rattle.connection.specs.Advance.{flipped};
-ghost use Rattle.connection.specs.ByEvent.{clear, orderBy, byEvent};
-use crate::Actions;
+ghost use Rattle.connection.specs.ByEvent.{byEvent};
 use crate::Answer;
 use crate::Outcome;
 use crate::orders;
@@ -15,26 +14,7 @@ use record::Connection;
 use table::codes;
 use table::states;
 
-// The empty order sheet.
-pub(crate) const NO_ACTIONS: Actions = Actions {
-    message: orders::NONE,
-    prover: orders::NONE,
-    verifier: orders::NONE,
-    h: orders::NONE,
-    hp: orders::NONE,
-    hv: orders::NONE,
-    dat: orders::NONE,
-    ra: orders::NONE,
-    ack: orders::NONE,
-    dat_seconds: 0,
-    bit: 0,
-    deliver: false,
-    verifier_suite: 0,
-    prover_suite: 0,
-    payload_slice: orders::NONE,
-    payload_len: 0,
-};
-
+// One of two numbers, by a test.
 fn pick(test: bool, yes: u32, no: u32) -> u32
     ensures { λ r. ⌜ r ≡ cond test yes «no» ⌝ }
 {
@@ -48,13 +28,6 @@ fn flip(bit: u32) -> u32
     pick(bit == 0, 1, 0)
 }
 
-// The order to a timer that ends; one with tag 0 doesn't run and gets none.
-fn end(tag: u32) -> u32
-    ensures { λ r. ⌜ r ≡ orderBy clear tag ⌝ }
-{
-    pick(tag == 0, orders::NONE, orders::CANCEL)
-}
-
 // UPPER_START_HANDSHAKE: sends a hello.
 pub(crate) fn start_handshake(connection: Connection, input: Input, to: u32, number: u32) -> Outcome
     ensures { λ r. ⌜ r ≡ byEvent number connection 0 input to ⌝ }
@@ -63,7 +36,7 @@ pub(crate) fn start_handshake(connection: Connection, input: Input, to: u32, num
     after.state = to;
     after.handled = number;
     after.h = number;
-    let mut actions = NO_ACTIONS;
+    let mut actions = orders::NO_ACTIONS;
     actions.message = orders::HELLO;
     actions.h = orders::START;
     Outcome {
@@ -84,7 +57,7 @@ pub(crate) fn open_connection(connection: Connection, input: Input, to: u32, num
     after.prover = number;
     after.verifier = number;
     after.dat = number;
-    let mut actions = NO_ACTIONS;
+    let mut actions = orders::NO_ACTIONS;
     actions.prover = orders::START;
     actions.verifier = orders::START;
     actions.h = orders::CANCEL;
@@ -112,7 +85,7 @@ pub(crate) fn verifier_ok(connection: Connection, input: Input, to: u32, number:
     after.verifier = 0;
     after.ra = number;
     after.ack = pick(waits, number, connection.ack);
-    let mut actions = NO_ACTIONS;
+    let mut actions = orders::NO_ACTIONS;
     actions.hv = orders::CANCEL;
     actions.ra = orders::START;
     actions.ack = pick(waits, orders::START, orders::NONE);
@@ -133,7 +106,7 @@ pub(crate) fn prover_ok(connection: Connection, input: Input, to: u32, number: u
     after.handled = number;
     after.prover = 0;
     after.ack = pick(waits, number, connection.ack);
-    let mut actions = NO_ACTIONS;
+    let mut actions = orders::NO_ACTIONS;
     actions.hp = orders::CANCEL;
     actions.ack = pick(waits, orders::START, orders::NONE);
     Outcome {
@@ -158,7 +131,7 @@ pub(crate) fn send_report(
     let mut after = connection;
     after.state = to;
     after.handled = number;
-    let mut actions = NO_ACTIONS;
+    let mut actions = orders::NO_ACTIONS;
     actions.message = pick(verifier, orders::RA_VERIFIER, orders::RA_PROVER);
     actions.payload_slice = orders::OF_EVENT;
     actions.payload_len = input.payload_len;
@@ -184,7 +157,7 @@ pub(crate) fn pass_on(
     let mut after = connection;
     after.state = to;
     after.handled = number;
-    let mut actions = NO_ACTIONS;
+    let mut actions = orders::NO_ACTIONS;
     actions.prover = pick(to_verifier, orders::NONE, orders::FORWARD);
     actions.verifier = pick(to_verifier, orders::FORWARD, orders::NONE);
     actions.payload_slice = orders::OF_EVENT;
@@ -212,11 +185,11 @@ pub(crate) fn prove_again(
     after.handled = number;
     after.prover = number;
     after.ack = 0;
-    let mut actions = NO_ACTIONS;
+    let mut actions = orders::NO_ACTIONS;
     actions.message = pick(code == codes::SC_DAT_EXPIRED, orders::DAT, orders::NONE);
     actions.prover = orders::START;
     actions.hp = orders::START;
-    actions.ack = end(connection.ack);
+    actions.ack = orders::cancel(false, connection.ack);
     Outcome {
         answer: Answer::Handled,
         connection: after,
@@ -235,12 +208,12 @@ pub(crate) fn renew_token(connection: Connection, input: Input, to: u32, number:
     after.verifier = number;
     after.dat = number;
     after.ra = 0;
-    let mut actions = NO_ACTIONS;
+    let mut actions = orders::NO_ACTIONS;
     actions.verifier = orders::START;
     actions.h = orders::CANCEL;
     actions.hv = orders::START;
     actions.dat = orders::START;
-    actions.ra = end(connection.ra);
+    actions.ra = orders::cancel(false, connection.ra);
     actions.dat_seconds = input.seconds;
     Outcome {
         answer: Answer::Handled,
@@ -266,12 +239,12 @@ pub(crate) fn verify_again(
     after.verifier = number;
     after.ra = 0;
     after.ack = 0;
-    let mut actions = NO_ACTIONS;
+    let mut actions = orders::NO_ACTIONS;
     actions.message = orders::RE_RA;
     actions.verifier = orders::START;
     actions.hv = orders::START;
     actions.ra = pick(code == codes::UPPER_RE_RA, orders::CANCEL, orders::NONE);
-    actions.ack = end(connection.ack);
+    actions.ack = orders::cancel(false, connection.ack);
     Outcome {
         answer: Answer::Handled,
         connection: after,
@@ -294,13 +267,13 @@ pub(crate) fn expire_token(connection: Connection, input: Input, to: u32, number
     after.dat = 0;
     after.ra = pick(ready, 0, connection.ra);
     after.ack = 0;
-    let mut actions = NO_ACTIONS;
+    let mut actions = orders::NO_ACTIONS;
     actions.message = orders::DAT_EXPIRED;
-    actions.verifier = pick(connection.verifier != 0, orders::STOP, orders::NONE);
+    actions.verifier = orders::stop(false, connection.verifier);
     actions.h = orders::START;
-    actions.hv = end(connection.verifier);
+    actions.hv = orders::cancel(false, connection.verifier);
     actions.ra = pick(ready, orders::CANCEL, orders::NONE);
-    actions.ack = end(connection.ack);
+    actions.ack = orders::cancel(false, connection.ack);
     Outcome {
         answer: Answer::Handled,
         connection: after,
@@ -318,7 +291,7 @@ pub(crate) fn send_data(connection: Connection, input: Input, to: u32, number: u
     after.cached_len = input.payload_len;
     after.handled = number;
     after.ack = number;
-    let mut actions = NO_ACTIONS;
+    let mut actions = orders::NO_ACTIONS;
     actions.message = orders::DATA;
     actions.ack = orders::START;
     actions.bit = connection.next_send_bit;
@@ -339,7 +312,7 @@ pub(crate) fn receive_data(connection: Connection, input: Input, to: u32, number
     after.state = to;
     after.expected_bit = flip(connection.expected_bit);
     after.handled = number;
-    let mut actions = NO_ACTIONS;
+    let mut actions = orders::NO_ACTIONS;
     actions.message = orders::ACK;
     actions.bit = input.bit;
     actions.deliver = true;
@@ -363,8 +336,8 @@ pub(crate) fn receive_ack(connection: Connection, input: Input, to: u32, number:
     after.cached_len = 0;
     after.handled = number;
     after.ack = 0;
-    let mut actions = NO_ACTIONS;
-    actions.ack = end(connection.ack);
+    let mut actions = orders::NO_ACTIONS;
+    actions.ack = orders::cancel(false, connection.ack);
     Outcome {
         answer: Answer::Handled,
         connection: after,
@@ -380,7 +353,7 @@ pub(crate) fn repeat_data(connection: Connection, input: Input, to: u32, number:
     after.state = to;
     after.handled = number;
     after.ack = number;
-    let mut actions = NO_ACTIONS;
+    let mut actions = orders::NO_ACTIONS;
     actions.message = orders::DATA;
     actions.ack = orders::START;
     actions.bit = connection.next_send_bit;

@@ -1,4 +1,9 @@
-// The numbers in the slots of `Actions`.
+// The numbers in the slots of `Actions`, the empty sheet, and the orders that end a driver or a timer.
+ghost use mathlib.Core.Path.{_≡_};
+ghost use mathlib.Core.Bool.{true, false};
+ghost use Rattle.connection.specs.Actions.{stopped};
+ghost use Rattle.connection.specs.Timers.{timerOrder};
+use crate::Actions;
 
 // No message, no order, no payload.
 pub const NONE: u32 = 0;
@@ -43,3 +48,37 @@ pub const CANCEL: u32 = 2;
 pub const OF_EVENT: u32 = 1;
 
 pub const OF_CACHE: u32 = 2;
+
+// The empty order sheet.
+pub(crate) const NO_ACTIONS: Actions = Actions {
+    message: NONE,
+    prover: NONE,
+    verifier: NONE,
+    h: NONE,
+    hp: NONE,
+    hv: NONE,
+    dat: NONE,
+    ra: NONE,
+    ack: NONE,
+    dat_seconds: 0,
+    bit: 0,
+    deliver: false,
+    verifier_suite: 0,
+    prover_suite: 0,
+    payload_slice: NONE,
+    payload_len: 0,
+};
+
+// A stop for a running driver, unless it has reported OK or FAILED.
+pub(crate) fn stop(reported: bool, tag: u32) -> u32
+    ensures { λ r. ⌜ r ≡ stopped reported tag ⌝ }
+{
+    if !reported & (tag != 0) { STOP } else { NONE }
+}
+
+// A cancel for a running timer, unless this event reports it.
+pub(crate) fn cancel(reported: bool, tag: u32) -> u32
+    ensures { λ r. ⌜ r ≡ timerOrder false true reported tag ⌝ }
+{
+    if !reported & (tag != 0) { CANCEL } else { NONE }
+}

@@ -219,6 +219,7 @@ fn number_in(common: Common) -> u32
     number
 }
 
+// Nested as the list of the definition is.
 fn carries_payload(code: u32) -> bool
     ensures { λ r. ⌜ r ≡ carriesPayload code ⌝ }
 {

@@ -8,7 +8,7 @@ use Rattle.connection.proofs.moves.expire_token.Statement.{statement}
 use Rattle.connection.proofs.moves.expire_token.Tie as tie
 
 returns : tie.Need-returns
-returns c = let a = c .before .before .before .before .before .before .before .before .args in rw (c .end2 .ensures, c .before .pick3 .ensures, c .before .before .end .ensures, c .before .before .before .pick2 .ensures, c .before .before .before .before .before .pick .ensures, tag-if (eqb (a .connection .state) 7 || eqb (a .connection .state) 8) cancel keep (a .number) (a .connection .ra), order-if (eqb (a .connection .state) 7 || eqb (a .connection .state) 8) cancel keep (a .connection .ra))
+returns c = let a = c .before .before .before .before .before .before .before .args in rw (c .cancel2 .ensures, c .before .pick2 .ensures, c .before .before .cancel .ensures, c .before .before .before .stop .ensures, c .before .before .before .before .pick .ensures, tag-if (eqb (a .connection .state) 7 || eqb (a .connection .state) 8) cancel keep (a .number) (a .connection .ra), order-if (eqb (a .connection .state) 7 || eqb (a .connection .state) 8) cancel keep (a .connection .ra))
 
 pub expire-token-spec : {M : Type 1} → statement M
 expire-token-spec =

@@ -4,7 +4,7 @@ use Rattle.connection.proofs.moves.receive_ack.Statement.{statement}
 use Rattle.connection.proofs.moves.receive_ack.Tie as tie
 
 returns : tie.Need-returns
-returns c = rw (c .end .ensures, c .before .flip .ensures)
+returns c = rw (c .cancel .ensures, c .before .flip .ensures)
 
 pub receive-ack-spec : {M : Type 1} → statement M
 receive-ack-spec = tie.close (tie.spec (λ c κs. search needs) (λ c κs. search needs) returns)

@@ -4,7 +4,7 @@ use Rattle.connection.proofs.moves.renew_token.Statement.{statement}
 use Rattle.connection.proofs.moves.renew_token.Tie as tie
 
 returns : tie.Need-returns
-returns c = rw (c .end .ensures)
+returns c = rw (c .cancel .ensures)
 
 pub renew-token-spec : {M : Type 1} → statement M
 renew-token-spec = tie.close (tie.spec (λ c κs. search needs) returns)

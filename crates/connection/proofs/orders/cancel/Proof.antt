@@ -1,6 +1,6 @@
--- `connection::locking::cancel` meets its contract.
-use Rattle.connection.proofs.locking.cancel.Statement.{statement}
-use Rattle.connection.proofs.locking.cancel.Tie as tie
+-- `connection::orders::cancel` meets its contract.
+use Rattle.connection.proofs.orders.cancel.Statement.{statement}
+use Rattle.connection.proofs.orders.cancel.Tie as tie
 
 returns : tie.Need-returns
 returns c = rw (c .if1 .taken)

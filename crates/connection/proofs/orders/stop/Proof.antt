@@ -1,6 +1,6 @@
--- `connection::locking::stop` meets its contract.
-use Rattle.connection.proofs.locking.stop.Statement.{statement}
-use Rattle.connection.proofs.locking.stop.Tie as tie
+-- `connection::orders::stop` meets its contract.
+use Rattle.connection.proofs.orders.stop.Statement.{statement}
+use Rattle.connection.proofs.orders.stop.Tie as tie
 
 returns : tie.Need-returns
 returns c = rw (c .if1 .taken)
