@@ -9,21 +9,21 @@ use lib.Dec.{eqb, ltb}
 use borrow.Author.Tests.{eqb-true, ltb-false, eq-eqb, ne-eqb}
 use denote.Enum.Declared.{tagOf}
 use types.Run.{OneOf, miss}
-use Rattle.connection.specs.Block.{stored}
+use Rattle.protocol.specs.Block.{stored}
 use Rattle.event.specs.Call.{Call, carriesPayload, inputBy}
-use Rattle.connection.specs.Condition.{nextState}
+use Rattle.protocol.specs.Condition.{nextState}
 use Rattle.record.specs.Limits.{Limits}
-use Rattle.connection.specs.Refusal.{refusal, faults}
-use Rattle.connection.specs.Step.{unchanged, handledTo, decided, cacheAfter}
-use Rattle.connection.specs.declared.Answer.{Answer}
-use Rattle.connection.specs.declared.Answer.the-variants.{Handled, Ignored, Refused}
+use Rattle.protocol.specs.Refusal.{refusal, faults}
+use Rattle.protocol.specs.Step.{unchanged, handledTo, decided, cacheAfter}
+use Rattle.protocol.specs.declared.Answer.{Answer}
+use Rattle.protocol.specs.declared.Answer.the-variants.{Handled, Ignored, Refused}
 use Rattle.record.specs.declared.Connection.{Connection}
 use Rattle.event.specs.declared.Event.{Event}
-use Rattle.connection.specs.declared.Outcome.{Outcome}
+use Rattle.protocol.specs.declared.Outcome.{Outcome}
 use Rattle.event.specs.declared.Input.{Input}
 use Rattle.event.specs.declared.Suites.{Suites}
-use Rattle.connection.proofs.Answer.{the-type}
-use Rattle.connection.proofs.Decided.{NoneOf, none-of}
+use Rattle.protocol.proofs.Answer.{the-type}
+use Rattle.protocol.proofs.Decided.{NoneOf, none-of}
 
 never-refused : (n : ℕ) → Refused n ≡ Handled → ⊥
 never-refused n e = let z : _≡_ {A = ℕ} 0 1 = cc in omega arith

@@ -6,18 +6,18 @@ use Prim.Native.Nat.{ℕ, _<_, _≤_}
 use native.Mathlib.Omega.{arith}
 use lib.Dec.{T, eqb}
 use types.Run.{OneOf}
-use Rattle.connection.specs.Actions.{lockingActions, movingActions, ordersOf, actionsOf}
-use Rattle.connection.specs.Advance.{raised, locked, moved, tagsAfter, advance}
+use Rattle.protocol.specs.Actions.{lockingActions, movingActions, ordersOf, actionsOf}
+use Rattle.protocol.specs.Advance.{raised, locked, moved, tagsAfter, advance}
 use Rattle.connection.specs.ByEvent.{Effect, keep, start, cancel, expire, clear, effectOf, tagBy, orderBy, byEvent, byLocking, moving}
-use Rattle.connection.specs.Condition.{holds, nextState}
+use Rattle.protocol.specs.Condition.{holds, nextState}
 use Rattle.record.specs.Limits.{Limits}
 use Rattle.table.specs.Sets.{isIn}
-use Rattle.connection.specs.Step.{handledTo}
+use Rattle.protocol.specs.Step.{handledTo}
 use Rattle.table.specs.Table.{cell, settled}
 use Rattle.record.specs.Tags.{Timer, H, HP, HV, DAT, RA, ACK, tagOf, runsIn}
-use Rattle.connection.specs.Timers.{starts, ends, reports, tagAfter, timerOrder}
+use Rattle.protocol.specs.Timers.{starts, ends, reports, tagAfter, timerOrder}
 use Rattle.record.specs.WellFormed.{wellFormed}
-use Rattle.connection.specs.declared.Answer.the-variants.{Handled}
+use Rattle.protocol.specs.declared.Answer.the-variants.{Handled}
 use Rattle.record.specs.declared.Connection.{Connection}
 use Rattle.event.specs.declared.Input.{Input}
 use Rattle.table.proofs.Arms.{one-of}

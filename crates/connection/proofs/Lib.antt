@@ -1,5 +1,2 @@
 mod Cache
-pub mod Cases
-pub mod Decided
 mod Effects
-pub mod Joined

@@ -5,15 +5,15 @@ use mathlib.Core.Bool.{true, false, cond}
 use mathlib.Core.List.{List, [], _∷_}
 use lib.Dec.{eqb}
 use lib.ListN.{getD}
-use Rattle.connection.specs.Orders as order
+use Rattle.protocol.specs.Orders as order
 use Rattle.table.specs.Sets.{isIn}
 use Rattle.record.specs.Tags.{Timer, H, HP, HV, DAT, RA, ACK, tagOf}
-use Rattle.connection.specs.Timers.{timerOrder}
-use Rattle.connection.specs.Advance.{locked, moved}
-use Rattle.connection.specs.Actions.{lockingActions, movingActions, ordersOf}
-use Rattle.connection.specs.declared.Answer.the-variants.{Handled}
+use Rattle.protocol.specs.Timers.{timerOrder}
+use Rattle.protocol.specs.Advance.{locked, moved}
+use Rattle.protocol.specs.Actions.{lockingActions, movingActions, ordersOf}
+use Rattle.protocol.specs.declared.Answer.the-variants.{Handled}
 use Rattle.record.specs.declared.Connection.{Connection}
-use Rattle.connection.specs.declared.Outcome.{Outcome}
+use Rattle.protocol.specs.declared.Outcome.{Outcome}
 use Rattle.event.specs.declared.Input.{Input}
 
 -- The effects on a timer: kept as it is; started; cancelled where it is known to run; ended by its own report; cancelled where it may be off.

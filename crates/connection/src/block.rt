@@ -2,7 +2,7 @@
 ghost use mathlib.Core.Path.{_≡_};
 ghost use Prim.Native.Nat.{_≤_};
 ghost use lib.ListN.{length};
-ghost use Rattle.connection.specs.Block as spec;
+ghost use Rattle.protocol.specs.Block as spec;
 
 // Copies the payload to the first bytes of the cache.
 pub(crate) fn store(cache: &mut [u8], payload: &[u8])

@@ -1,6 +1,6 @@
 // The conditions of the events.
 ghost use mathlib.Core.Path.{_≡_};
-ghost use Rattle.connection.specs.Condition as spec;
+ghost use Rattle.protocol.specs.Condition as spec;
 ghost use Rattle.record.specs.Tags.{tagOf};
 use event::Input;
 use event::timers;

@@ -5,18 +5,19 @@ ghost use mathlib.Core.List.{_∷_, [], _++_};
 ghost use types.Run.{OneOf};
 ghost use Rattle.connection.specs.ByEvent.{moving, byEvent};
 ghost use Rattle.record.specs.Limits.{limits};
-ghost use Rattle.connection.specs.Refusal.{firstFault, argumentFaults};
-ghost use Rattle.connection.specs.Step.{unchanged, decided};
+ghost use Rattle.protocol.specs.Refusal.{firstFault, argumentFaults};
+ghost use Rattle.protocol.specs.Step.{unchanged, decided};
 ghost use Rattle.record.specs.WellFormed.{wellFormed};
-use crate::Answer;
-use crate::Outcome;
 use crate::condition::holds;
 use crate::locking::lock;
 use crate::moves;
-use crate::orders;
-use crate::refusals;
+use crate::sheet;
 use event::Input;
 use event::timers;
+use protocol::Answer;
+use protocol::Outcome;
+use protocol::orders;
+use protocol::refusals;
 use record::Connection;
 use record::well_formed;
 use table::IGNORED;
@@ -59,7 +60,7 @@ fn unmoved(answer: Answer, connection: Connection) -> Outcome
     Outcome {
         answer,
         connection,
-        actions: orders::NO_ACTIONS,
+        actions: sheet::NO_ACTIONS,
     }
 }
 

@@ -4,9 +4,9 @@
 // in what happened, and carries out the actions that it gets back.
 ghost use mathlib.Core.Path.{_≡_};
 ghost use Rattle.record.specs.Limits.{limits};
-ghost use Rattle.connection.specs.Block.{partOf};
+ghost use Rattle.protocol.specs.Block.{partOf};
 ghost use Rattle.event.specs.Call.{callOf};
-ghost use Rattle.connection.specs.Step.{refusalNumber, refusalOf, resultOf};
+ghost use Rattle.protocol.specs.Step.{refusalNumber, refusalOf, resultOf};
 ghost use lib.ListN.{length};
 
 mod block;
@@ -14,8 +14,7 @@ mod condition;
 mod judging;
 mod locking;
 mod moves;
-pub mod orders;
-pub mod refusals;
+mod sheet;
 
 use crate::block::front;
 use crate::block::store;
@@ -24,44 +23,15 @@ pub use event::Event;
 use event::choose_suites;
 use event::read;
 pub use event::timers;
+pub use protocol::Actions;
+pub use protocol::Answer;
+pub use protocol::Outcome;
+pub use protocol::orders;
+pub use protocol::refusals;
 pub use record::Connection;
 pub use record::fresh;
 pub use table::codes;
 pub use table::states;
-
-// What the host is to do: document 01's order sheet. The numbers are in `orders`.
-pub struct Actions {
-    pub message: u32,
-    // Orders to the drivers.
-    pub prover: u32,
-    pub verifier: u32,
-    // Orders to the timers.
-    pub h: u32,
-    pub hp: u32,
-    pub hv: u32,
-    pub dat: u32,
-    pub ra: u32,
-    pub ack: u32,
-    // The length of the DAT timer, where it starts.
-    pub dat_seconds: u32,
-    // The bit of a DATA or ACK.
-    pub bit: u32,
-    // Document 01's hand-up: whether the payload goes to the application.
-    pub deliver: bool,
-    // The chosen suites, where the connection opens.
-    pub verifier_suite: u32,
-    pub prover_suite: u32,
-    // The slice that the payload is a part of, and the payload's length.
-    pub payload_slice: u32,
-    pub payload_len: u32,
-}
-
-// What became of an event.
-pub enum Answer {
-    Handled,
-    Ignored,
-    Refused(u32),
-}
 
 // The number of a refusal, 0 for an answer that is none.
 pub fn refusal_number(answer: Answer) -> u32
@@ -71,13 +41,6 @@ pub fn refusal_number(answer: Answer) -> u32
         return refusals::NONE;
     };
     number
-}
-
-// What a step gives back.
-pub struct Outcome {
-    pub answer: Answer,
-    pub connection: Connection,
-    pub actions: Actions,
 }
 
 // One step. A handled `UPPER_SEND_DATA` stores its payload in the cache; nothing else writes it.

@@ -1,12 +1,13 @@
 // Handled events that lock the connection.
 ghost use mathlib.Core.Path.{_≡_};
-ghost use Rattle.connection.specs.Actions.{closing};
+ghost use Rattle.protocol.specs.Actions.{closing};
 ghost use Rattle.connection.specs.ByEvent.{byLocking};
-use crate::Answer;
-use crate::Outcome;
-use crate::orders;
+use crate::sheet;
 use event::Input;
 use event::timers;
+use protocol::Answer;
+use protocol::Outcome;
+use protocol::orders;
 use record::Connection;
 use record::cleared;
 use table::codes;
@@ -30,16 +31,16 @@ pub(crate) fn lock(connection: Connection, code: u32, input: Input, number: u32)
     let timeout = code == codes::HANDSHAKE_TIMEOUT;
     let proved = (code == codes::RA_PROVER_OK) | (code == codes::RA_PROVER_FAILED);
     let verified = (code == codes::RA_VERIFIER_OK) | (code == codes::RA_VERIFIER_FAILED);
-    let mut actions = orders::NO_ACTIONS;
+    let mut actions = sheet::NO_ACTIONS;
     actions.message = closing_message(code);
-    actions.prover = orders::stop(proved, connection.prover);
-    actions.verifier = orders::stop(verified, connection.verifier);
-    actions.h = orders::cancel(timeout & (input.timer == timers::H), connection.h);
-    actions.hp = orders::cancel(timeout & (input.timer == timers::HP), connection.prover);
-    actions.hv = orders::cancel(timeout & (input.timer == timers::HV), connection.verifier);
-    actions.dat = orders::cancel(code == codes::DAT_TIMEOUT, connection.dat);
-    actions.ra = orders::cancel(code == codes::RA_TIMEOUT, connection.ra);
-    actions.ack = orders::cancel(code == codes::ACK_TIMEOUT, connection.ack);
+    actions.prover = sheet::stop(proved, connection.prover);
+    actions.verifier = sheet::stop(verified, connection.verifier);
+    actions.h = sheet::cancel(timeout & (input.timer == timers::H), connection.h);
+    actions.hp = sheet::cancel(timeout & (input.timer == timers::HP), connection.prover);
+    actions.hv = sheet::cancel(timeout & (input.timer == timers::HV), connection.verifier);
+    actions.dat = sheet::cancel(code == codes::DAT_TIMEOUT, connection.dat);
+    actions.ra = sheet::cancel(code == codes::RA_TIMEOUT, connection.ra);
+    actions.ack = sheet::cancel(code == codes::ACK_TIMEOUT, connection.ack);
     Outcome {
         answer: Answer::Handled,
         connection: cleared(states::CLOSED_LOCKED, number),

@@ -4,12 +4,13 @@ ghost use mathlib.Core.Path.{_≡_};
 ghost use mathlib.Core.Bool.{cond};
 ghost use mathlib.Core.List.{_∷_, []};
 ghost use types.Run.{OneOf};
-ghost use Rattle.connection.specs.Advance.{flipped};
+ghost use Rattle.protocol.specs.Advance.{flipped};
 ghost use Rattle.connection.specs.ByEvent.{byEvent};
-use crate::Answer;
-use crate::Outcome;
-use crate::orders;
+use crate::sheet;
 use event::Input;
+use protocol::Answer;
+use protocol::Outcome;
+use protocol::orders;
 use record::Connection;
 use table::codes;
 use table::states;
@@ -36,7 +37,7 @@ pub(crate) fn start_handshake(connection: Connection, input: Input, to: u32, num
     after.state = to;
     after.handled = number;
     after.h = number;
-    let mut actions = orders::NO_ACTIONS;
+    let mut actions = sheet::NO_ACTIONS;
     actions.message = orders::HELLO;
     actions.h = orders::START;
     Outcome {
@@ -57,7 +58,7 @@ pub(crate) fn open_connection(connection: Connection, input: Input, to: u32, num
     after.prover = number;
     after.verifier = number;
     after.dat = number;
-    let mut actions = orders::NO_ACTIONS;
+    let mut actions = sheet::NO_ACTIONS;
     actions.prover = orders::START;
     actions.verifier = orders::START;
     actions.h = orders::CANCEL;
@@ -85,7 +86,7 @@ pub(crate) fn verifier_ok(connection: Connection, input: Input, to: u32, number:
     after.verifier = 0;
     after.ra = number;
     after.ack = pick(waits, number, connection.ack);
-    let mut actions = orders::NO_ACTIONS;
+    let mut actions = sheet::NO_ACTIONS;
     actions.hv = orders::CANCEL;
     actions.ra = orders::START;
     actions.ack = pick(waits, orders::START, orders::NONE);
@@ -106,7 +107,7 @@ pub(crate) fn prover_ok(connection: Connection, input: Input, to: u32, number: u
     after.handled = number;
     after.prover = 0;
     after.ack = pick(waits, number, connection.ack);
-    let mut actions = orders::NO_ACTIONS;
+    let mut actions = sheet::NO_ACTIONS;
     actions.hp = orders::CANCEL;
     actions.ack = pick(waits, orders::START, orders::NONE);
     Outcome {
@@ -131,7 +132,7 @@ pub(crate) fn send_report(
     let mut after = connection;
     after.state = to;
     after.handled = number;
-    let mut actions = orders::NO_ACTIONS;
+    let mut actions = sheet::NO_ACTIONS;
     actions.message = pick(verifier, orders::RA_VERIFIER, orders::RA_PROVER);
     actions.payload_slice = orders::OF_EVENT;
     actions.payload_len = input.payload_len;
@@ -157,7 +158,7 @@ pub(crate) fn pass_on(
     let mut after = connection;
     after.state = to;
     after.handled = number;
-    let mut actions = orders::NO_ACTIONS;
+    let mut actions = sheet::NO_ACTIONS;
     actions.prover = pick(to_verifier, orders::NONE, orders::FORWARD);
     actions.verifier = pick(to_verifier, orders::FORWARD, orders::NONE);
     actions.payload_slice = orders::OF_EVENT;
@@ -185,11 +186,11 @@ pub(crate) fn prove_again(
     after.handled = number;
     after.prover = number;
     after.ack = 0;
-    let mut actions = orders::NO_ACTIONS;
+    let mut actions = sheet::NO_ACTIONS;
     actions.message = pick(code == codes::SC_DAT_EXPIRED, orders::DAT, orders::NONE);
     actions.prover = orders::START;
     actions.hp = orders::START;
-    actions.ack = orders::cancel(false, connection.ack);
+    actions.ack = sheet::cancel(false, connection.ack);
     Outcome {
         answer: Answer::Handled,
         connection: after,
@@ -208,12 +209,12 @@ pub(crate) fn renew_token(connection: Connection, input: Input, to: u32, number:
     after.verifier = number;
     after.dat = number;
     after.ra = 0;
-    let mut actions = orders::NO_ACTIONS;
+    let mut actions = sheet::NO_ACTIONS;
     actions.verifier = orders::START;
     actions.h = orders::CANCEL;
     actions.hv = orders::START;
     actions.dat = orders::START;
-    actions.ra = orders::cancel(false, connection.ra);
+    actions.ra = sheet::cancel(false, connection.ra);
     actions.dat_seconds = input.seconds;
     Outcome {
         answer: Answer::Handled,
@@ -239,12 +240,12 @@ pub(crate) fn verify_again(
     after.verifier = number;
     after.ra = 0;
     after.ack = 0;
-    let mut actions = orders::NO_ACTIONS;
+    let mut actions = sheet::NO_ACTIONS;
     actions.message = orders::RE_RA;
     actions.verifier = orders::START;
     actions.hv = orders::START;
     actions.ra = pick(code == codes::UPPER_RE_RA, orders::CANCEL, orders::NONE);
-    actions.ack = orders::cancel(false, connection.ack);
+    actions.ack = sheet::cancel(false, connection.ack);
     Outcome {
         answer: Answer::Handled,
         connection: after,
@@ -267,13 +268,13 @@ pub(crate) fn expire_token(connection: Connection, input: Input, to: u32, number
     after.dat = 0;
     after.ra = pick(ready, 0, connection.ra);
     after.ack = 0;
-    let mut actions = orders::NO_ACTIONS;
+    let mut actions = sheet::NO_ACTIONS;
     actions.message = orders::DAT_EXPIRED;
-    actions.verifier = orders::stop(false, connection.verifier);
+    actions.verifier = sheet::stop(false, connection.verifier);
     actions.h = orders::START;
-    actions.hv = orders::cancel(false, connection.verifier);
+    actions.hv = sheet::cancel(false, connection.verifier);
     actions.ra = pick(ready, orders::CANCEL, orders::NONE);
-    actions.ack = orders::cancel(false, connection.ack);
+    actions.ack = sheet::cancel(false, connection.ack);
     Outcome {
         answer: Answer::Handled,
         connection: after,
@@ -291,7 +292,7 @@ pub(crate) fn send_data(connection: Connection, input: Input, to: u32, number: u
     after.cached_len = input.payload_len;
     after.handled = number;
     after.ack = number;
-    let mut actions = orders::NO_ACTIONS;
+    let mut actions = sheet::NO_ACTIONS;
     actions.message = orders::DATA;
     actions.ack = orders::START;
     actions.bit = connection.next_send_bit;
@@ -312,7 +313,7 @@ pub(crate) fn receive_data(connection: Connection, input: Input, to: u32, number
     after.state = to;
     after.expected_bit = flip(connection.expected_bit);
     after.handled = number;
-    let mut actions = orders::NO_ACTIONS;
+    let mut actions = sheet::NO_ACTIONS;
     actions.message = orders::ACK;
     actions.bit = input.bit;
     actions.deliver = true;
@@ -336,8 +337,8 @@ pub(crate) fn receive_ack(connection: Connection, input: Input, to: u32, number:
     after.cached_len = 0;
     after.handled = number;
     after.ack = 0;
-    let mut actions = orders::NO_ACTIONS;
-    actions.ack = orders::cancel(false, connection.ack);
+    let mut actions = sheet::NO_ACTIONS;
+    actions.ack = sheet::cancel(false, connection.ack);
     Outcome {
         answer: Answer::Handled,
         connection: after,
@@ -353,7 +354,7 @@ pub(crate) fn repeat_data(connection: Connection, input: Input, to: u32, number:
     after.state = to;
     after.handled = number;
     after.ack = number;
-    let mut actions = orders::NO_ACTIONS;
+    let mut actions = sheet::NO_ACTIONS;
     actions.message = orders::DATA;
     actions.ack = orders::START;
     actions.bit = connection.next_send_bit;

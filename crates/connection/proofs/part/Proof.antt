@@ -4,7 +4,7 @@ use lib.ListN.{length}
 use denote.Ref.{now}
 use borrow.Author.Needs.{needs}
 use borrow.Author.Tests.{ne-eqb}
-use Rattle.connection.specs.Block.{partOf}
+use Rattle.protocol.specs.Block.{partOf}
 use Rattle.connection.proofs.part.Statement.{statement}
 use Rattle.connection.proofs.part.Tie as tie
 

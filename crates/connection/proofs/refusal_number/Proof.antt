@@ -5,10 +5,10 @@ use Prim.Native.Nat.{ℕ}
 use borrow.Author.Needs.{needs}
 use denote.Enum.Declared.{tagOf}
 use types.Run.{OneOf, miss}
-use Rattle.connection.specs.Step.{refusalNumber}
-use Rattle.connection.specs.declared.Answer.{Answer}
-use Rattle.connection.specs.declared.Answer.the-variants.{Handled, Ignored, Refused}
-use Rattle.connection.proofs.Answer.{the-type}
+use Rattle.protocol.specs.Step.{refusalNumber}
+use Rattle.protocol.specs.declared.Answer.{Answer}
+use Rattle.protocol.specs.declared.Answer.the-variants.{Handled, Ignored, Refused}
+use Rattle.protocol.proofs.Answer.{the-type}
 use Rattle.connection.proofs.refusal_number.Statement.{statement}
 use Rattle.connection.proofs.refusal_number.Tie as tie
 

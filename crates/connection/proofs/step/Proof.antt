@@ -7,13 +7,13 @@ use denote.Ref.{now}
 use borrow.Author.Needs.{needs}
 use Rattle.event.specs.Call.{Call, callOf, inputBy, inputOf}
 use Rattle.record.specs.Limits.{limits}
-use Rattle.connection.specs.Step.{refusalNumber, decided, stepOf, refusalOf, cacheAfter, resultOf}
-use Rattle.connection.specs.declared.Answer.{Answer}
-use Rattle.connection.specs.declared.Answer.the-variants.{Handled}
-use Rattle.connection.specs.declared.Outcome.{Outcome}
+use Rattle.protocol.specs.Step.{refusalNumber, decided, stepOf, refusalOf, cacheAfter, resultOf}
+use Rattle.protocol.specs.declared.Answer.{Answer}
+use Rattle.protocol.specs.declared.Answer.the-variants.{Handled}
+use Rattle.protocol.specs.declared.Outcome.{Outcome}
 use Rattle.event.specs.declared.Input.{Input}
 use Rattle.event.specs.declared.Suites.{Suites}
-use Rattle.connection.proofs.Decided.{number-is}
+use Rattle.protocol.proofs.Decided.{number-is}
 use Rattle.connection.proofs.Cache.{room-for, kept, written, unwritten}
 use Rattle.connection.proofs.step.Statement.{statement}
 use Rattle.connection.proofs.step.Tie as tie

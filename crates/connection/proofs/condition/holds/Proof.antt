@@ -6,7 +6,7 @@ use Prim.Native.Nat.{ℕ, _≤_}
 use native.Mathlib.Omega.{arith}
 use lib.ListN.{List·getD-eq-default}
 use borrow.Author.Needs.{needs}
-use Rattle.connection.specs.Condition.{nothing, conditions, isLive, holds}
+use Rattle.protocol.specs.Condition.{nothing, conditions, isLive, holds}
 use Rattle.record.specs.declared.Connection.{Connection}
 use Rattle.event.specs.declared.Input.{Input}
 use Rattle.table.proofs.Arms.{in-range, from}

@@ -7,11 +7,11 @@ use lib.Dec.{T}
 use borrow.Author.Needs.{needs}
 use borrow.Author.Tests.{eq-eqb, ne-eqb, ltb-false, not-false}
 use Rattle.record.specs.Limits.{limits}
-use Rattle.connection.specs.Condition.{nextState}
-use Rattle.connection.specs.Step.{handledTo, decided}
+use Rattle.protocol.specs.Condition.{nextState}
+use Rattle.protocol.specs.Step.{handledTo, decided}
 use Rattle.table.specs.Table.{cell, settled}
 use Rattle.record.specs.WellFormed.{wellFormed}
-use Rattle.connection.proofs.Decided as judged
+use Rattle.protocol.proofs.Decided as judged
 use Rattle.connection.proofs.Effects.{is-moving, by-event, by-locking}
 use Rattle.connection.proofs.judging.decide.Statement.{statement}
 use Rattle.connection.proofs.judging.decide.Tie as tie

@@ -1,6 +1,6 @@
--- `connection::orders::stop` meets its contract.
-use Rattle.connection.proofs.orders.stop.Statement.{statement}
-use Rattle.connection.proofs.orders.stop.Tie as tie
+-- `connection::sheet::stop` meets its contract.
+use Rattle.connection.proofs.sheet.stop.Statement.{statement}
+use Rattle.connection.proofs.sheet.stop.Tie as tie
 
 returns : tie.Need-returns
 returns c = rw (c .if1 .taken)

@@ -3,12 +3,12 @@
 use mathlib.Core.Path.{_≡_, ap, _∙_}
 use mathlib.Core.List.{List}
 use Prim.Native.Nat.{ℕ}
-use Rattle.connection.specs.Block.{partOf}
+use Rattle.protocol.specs.Block.{partOf}
 use Rattle.event.specs.Call.{Call}
 use Rattle.record.specs.Limits.{Limits}
-use Rattle.connection.specs.Step.{resultOf}
+use Rattle.protocol.specs.Step.{resultOf}
 use Rattle.record.specs.declared.Connection.{Connection}
-use Rattle.connection.specs.declared.Outcome.{Outcome}
+use Rattle.protocol.specs.declared.Outcome.{Outcome}
 
 pub part-of-result : (limits : Limits) (connection : Connection) (call : Call) (before after : List ℕ) (outcome : Outcome)
     → outcome ≡ resultOf limits connection call before .outcome

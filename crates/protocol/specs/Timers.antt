@@ -3,7 +3,7 @@ use Prim.Native.Nat.{ℕ}
 use mathlib.Core.Bool.{Bool, false, not, _&&_, _||_, cond}
 use mathlib.Core.List.{[], _∷_}
 use lib.Dec.{eqb}
-use Rattle.connection.specs.Orders.{none, start, cancel}
+use Rattle.protocol.specs.Orders.{none, start, cancel}
 use Rattle.record.specs.Tags.{Timer, H, HP, HV, DAT, RA, ACK, runsIn, isRa}
 use Rattle.table.specs.Sets.{isIn}
 

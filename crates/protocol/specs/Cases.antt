@@ -8,12 +8,12 @@ use lib.ListN.{getD, replicate}
 use Rattle.token.specs.SecondsLeft.{secondsLeft}
 use Rattle.event.specs.Call.{Call, callOf}
 use Rattle.record.specs.Limits.{limits}
-use Rattle.connection.specs.Orders as order
-use Rattle.connection.specs.Run.{resultsOf}
-use Rattle.connection.specs.Step.{Result, unchanged}
+use Rattle.protocol.specs.Orders as order
+use Rattle.protocol.specs.Run.{resultsOf}
+use Rattle.protocol.specs.Step.{Result, unchanged}
 use Rattle.record.specs.WellFormed.{fresh}
-use Rattle.connection.specs.declared.Answer.{Answer}
-use Rattle.connection.specs.declared.Answer.the-variants.{Handled, Ignored}
+use Rattle.protocol.specs.declared.Answer.{Answer}
+use Rattle.protocol.specs.declared.Answer.the-variants.{Handled, Ignored}
 use Rattle.event.specs.declared.Event.{Event}
 
 -- An event with these fields; the others are 0.

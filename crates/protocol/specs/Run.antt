@@ -3,7 +3,7 @@ use mathlib.Core.List.{List, [], _∷_}
 use Prim.Native.Nat.{ℕ}
 use Rattle.event.specs.Call.{Call}
 use Rattle.record.specs.Limits.{Limits}
-use Rattle.connection.specs.Step.{Result, resultOf}
+use Rattle.protocol.specs.Step.{Result, resultOf}
 use Rattle.record.specs.declared.Connection.{Connection}
 
 -- What the host gets for each call of the list.

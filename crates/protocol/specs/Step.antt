@@ -5,17 +5,17 @@ use mathlib.Core.List.{List}
 use lib.Dec.{eqb}
 use lib.ListN.{length}
 use Rattle.table.specs.Table.{ignored}
-use Rattle.connection.specs.Condition.{nextState}
+use Rattle.protocol.specs.Condition.{nextState}
 use Rattle.record.specs.Limits.{Limits}
 use Rattle.event.specs.Call.{Call, inputOf}
-use Rattle.connection.specs.Refusal.{refusal}
-use Rattle.connection.specs.Advance.{advance}
-use Rattle.connection.specs.Actions.{noActions, actionsOf}
-use Rattle.connection.specs.Block.{stored, partOf}
-use Rattle.connection.specs.declared.Answer.{Answer}
-use Rattle.connection.specs.declared.Answer.the-variants.{Handled, Ignored, Refused}
+use Rattle.protocol.specs.Refusal.{refusal}
+use Rattle.protocol.specs.Advance.{advance}
+use Rattle.protocol.specs.Actions.{noActions, actionsOf}
+use Rattle.protocol.specs.Block.{stored, partOf}
+use Rattle.protocol.specs.declared.Answer.{Answer}
+use Rattle.protocol.specs.declared.Answer.the-variants.{Handled, Ignored, Refused}
 use Rattle.record.specs.declared.Connection.{Connection}
-use Rattle.connection.specs.declared.Outcome.{Outcome}
+use Rattle.protocol.specs.declared.Outcome.{Outcome}
 use Rattle.event.specs.declared.Input.{Input}
 
 -- The paper's number for each answer: that of the refusal, 0 where there is none.

@@ -7,14 +7,14 @@ use Prim.Native.Nat.{ℕ, suc}
 use native.Mathlib.Omega.{arith}
 use lib.Dec.{eqb}
 use borrow.Author.Tests.{ne-eqb, eqb-true}
-use Rattle.connection.specs.Condition.{nextState}
+use Rattle.protocol.specs.Condition.{nextState}
 use Rattle.record.specs.Limits.{Limits}
-use Rattle.connection.specs.Refusal.{argumentFaults, firstFault, refusal}
-use Rattle.connection.specs.Step.{refusalNumber, unchanged, handledTo, decided}
+use Rattle.protocol.specs.Refusal.{argumentFaults, firstFault, refusal}
+use Rattle.protocol.specs.Step.{refusalNumber, unchanged, handledTo, decided}
 use Rattle.record.specs.WellFormed.{wellFormed}
-use Rattle.connection.specs.declared.Answer.the-variants.{Ignored, Refused}
+use Rattle.protocol.specs.declared.Answer.the-variants.{Ignored, Refused}
 use Rattle.record.specs.declared.Connection.{Connection}
-use Rattle.connection.specs.declared.Outcome.{Outcome}
+use Rattle.protocol.specs.declared.Outcome.{Outcome}
 use Rattle.event.specs.declared.Input.{Input}
 
 -- The number after those of a list of faults.

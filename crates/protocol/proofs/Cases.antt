@@ -4,16 +4,16 @@ use mathlib.Core.Path.{refl}
 use Rattle.token.specs.SecondsLeft.{secondsLeft}
 use Rattle.suites.specs.Choice.{find, choice}
 use Rattle.table.specs.Table.{cell}
-use Rattle.connection.specs.Actions.{actionsOf}
-use Rattle.connection.specs.Advance.{advance}
-use Rattle.connection.specs.Block.{partOf}
+use Rattle.protocol.specs.Actions.{actionsOf}
+use Rattle.protocol.specs.Advance.{advance}
+use Rattle.protocol.specs.Block.{partOf}
 use Rattle.event.specs.Call.{inputBy}
-use Rattle.connection.specs.Cases.{Holds, AllHold, cases}
-use Rattle.connection.specs.Condition.{holds, nextState}
+use Rattle.protocol.specs.Cases.{Holds, AllHold, cases}
+use Rattle.protocol.specs.Condition.{holds, nextState}
 use Rattle.event.specs.Kind.{kindOf}
-use Rattle.connection.specs.Refusal.{refusal}
-use Rattle.connection.specs.Run.{resultsOf}
-use Rattle.connection.specs.Step.{decided, resultOf}
+use Rattle.protocol.specs.Refusal.{refusal}
+use Rattle.protocol.specs.Run.{resultsOf}
+use Rattle.protocol.specs.Step.{decided, resultOf}
 use Rattle.record.specs.WellFormed.{wellFormed}
 
 pub worked : AllHold cases

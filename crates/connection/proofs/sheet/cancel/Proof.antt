@@ -1,6 +1,6 @@
--- `connection::orders::cancel` meets its contract.
-use Rattle.connection.proofs.orders.cancel.Statement.{statement}
-use Rattle.connection.proofs.orders.cancel.Tie as tie
+-- `connection::sheet::cancel` meets its contract.
+use Rattle.connection.proofs.sheet.cancel.Statement.{statement}
+use Rattle.connection.proofs.sheet.cancel.Tie as tie
 
 returns : tie.Need-returns
 returns c = rw (c .if1 .taken)

@@ -3,12 +3,12 @@ use Prim.Native.Nat.{ℕ}
 use mathlib.Core.Bool.{Bool, false, not, _&&_, cond}
 use mathlib.Core.List.{[], _∷_}
 use lib.Dec.{eqb}
-use Rattle.connection.specs.Orders as order
+use Rattle.protocol.specs.Orders as order
 use Rattle.table.specs.Sets.{isIn}
 use Rattle.event.specs.Call.{carriesPayload}
 use Rattle.record.specs.Tags.{Timer, H, HP, HV, DAT, RA, ACK, tagOf}
-use Rattle.connection.specs.Timers.{starts, ends, reports, startsProver, startsVerifier, timerOrder}
-use Rattle.connection.specs.declared.Actions.{Actions}
+use Rattle.protocol.specs.Timers.{starts, ends, reports, startsProver, startsVerifier, timerOrder}
+use Rattle.protocol.specs.declared.Actions.{Actions}
 use Rattle.record.specs.declared.Connection.{Connection}
 use Rattle.event.specs.declared.Input.{Input}
 

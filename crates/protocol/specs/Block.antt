@@ -4,8 +4,8 @@ use mathlib.Core.Bool.{cond}
 use mathlib.Core.List.{List, [], _++_}
 use lib.Dec.{eqb, leb}
 use lib.ListN.{length, take, drop}
-use Rattle.connection.specs.Orders as order
-use Rattle.connection.specs.declared.Actions.{Actions}
+use Rattle.protocol.specs.Orders as order
+use Rattle.protocol.specs.declared.Actions.{Actions}
 
 -- The payload in the first bytes of the cache; later bytes keep their values.
 abbrev pub stored : (payload cache : List ℕ) → List ℕ

@@ -3,7 +3,7 @@ use Prim.Native.Nat.{ℕ, _+_}
 use mathlib.Core.Bool.{cond}
 use lib.Dec.{eqb}
 use Rattle.record.specs.Tags.{Timer, H, HP, HV, DAT, RA, ACK, tagOf}
-use Rattle.connection.specs.Timers.{starts, ends, tagAfter}
+use Rattle.protocol.specs.Timers.{starts, ends, tagAfter}
 use Rattle.record.specs.WellFormed.{cleared}
 use Rattle.record.specs.declared.Connection.{Connection}
 use Rattle.event.specs.declared.Input.{Input}

@@ -5,7 +5,7 @@ use mathlib.Core.List.{List, [], _∷_, _++_}
 use lib.Dec.{eqb, ltb}
 use Rattle.record.specs.Limits.{Limits}
 use Rattle.table.specs.Table.{ignored}
-use Rattle.connection.specs.Condition.{nextState}
+use Rattle.protocol.specs.Condition.{nextState}
 use Rattle.record.specs.WellFormed.{wellFormed}
 use Rattle.record.specs.declared.Connection.{Connection}
 use Rattle.event.specs.declared.Input.{Input}

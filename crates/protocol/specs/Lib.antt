@@ -1,0 +1,10 @@
+pub mod Orders
+pub mod Timers
+pub mod Condition
+pub mod Refusal
+pub mod Advance
+pub mod Actions
+pub mod Block
+pub mod Step
+pub mod Run
+pub mod Cases
