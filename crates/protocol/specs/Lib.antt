@@ -8,3 +8,6 @@ pub mod Block
 pub mod Step
 pub mod Run
 pub mod Cases
+pub mod Notes
+pub mod History
+pub mod Agreement
