@@ -22,7 +22,8 @@ use Rattle.record.specs.declared.Connection.{Connection}
 use Rattle.event.specs.declared.Input.{Input}
 use Rattle.table.proofs.Arms.{one-of}
 use Rattle.table.proofs.Finite.{and-left, and-right, is-false, below, below-at, either, either-at}
-use Rattle.record.proofs.WellFormed.{offIn, parts}
+use Rattle.record.proofs.EveryTimer.{timers, timers-at}
+use Rattle.record.proofs.WellFormed.{offIn, parts, off, on}
 
 -- An effect that goes by a test.
 pub tag-if : (b : Bool) (e f : Effect) (number tag : ℕ) → tagBy (cond b e f) number tag ≡ cond b (tagBy e number tag) (tagBy f number tag)
@@ -86,18 +87,6 @@ order-fits clear false true true false on t z o f = absurd f
 order-fits clear false true false off on t z o f = refl
 order-fits clear false false r true on t z o f = rw (z tt)
 order-fits clear false false r false on t z o f = absurd f
-
--- A test of every timer.
-abbrev timers : (Timer → Bool) → Bool
-timers p = p H && (p HP && (p HV && (p DAT && (p RA && p ACK))))
-
-timers-at : (p : Timer → Bool) → T (timers p) → (timer : Timer) → T (p timer)
-timers-at p t H = search and-left
-timers-at p t HP = search (and-left, and-right) depth 16
-timers-at p t HV = search (and-left, and-right) depth 16
-timers-at p t DAT = search (and-left, and-right) depth 16
-timers-at p t RA = search (and-left, and-right) depth 16
-timers-at p t ACK = search (and-left, and-right) depth 16
 
 -- What event k, from state s to another, does to a timer fits its rules.
 abbrev effectFits : (s k to : ℕ) → Timer → Bool
@@ -172,11 +161,11 @@ module _ (limits : Limits) (connection : Connection) (code : ℕ) (input : Input
   is-moving = fitting .moves
 
   tag-of : (x : Timer) → tagBy (effectOf code (connection .state) to x) (raised connection) (tagOf connection x) ≡ tagsAfter connection code to x
-  tag-of x = tag-fits (effectOf code (connection .state) to x) (starts x code (connection .state) to) (ends x code (connection .state) to) (reports x code 0) (offIn x (connection .state)) (runsIn x (connection .state)) (raised connection) (tagOf connection x) (parts limits connection well .off x) (fitting .effect x)
+  tag-of x = tag-fits (effectOf code (connection .state) to x) (starts x code (connection .state) to) (ends x code (connection .state) to) (reports x code 0) (offIn x (connection .state)) (runsIn x (connection .state)) (raised connection) (tagOf connection x) (off limits connection (parts limits connection well) x) (fitting .effect x)
 
   order-of : (x : Timer) → orderBy (effectOf code (connection .state) to x) (tagOf connection x) ≡ ordersOf connection code input to x
   order-of x =
-      order-fits (effectOf code (connection .state) to x) (starts x code (connection .state) to) (ends x code (connection .state) to) (reports x code 0) (offIn x (connection .state)) (runsIn x (connection .state)) (tagOf connection x) (parts limits connection well .off x) (parts limits connection well .on x) (fitting .effect x)
+      order-fits (effectOf code (connection .state) to x) (starts x code (connection .state) to) (ends x code (connection .state) to) (reports x code 0) (offIn x (connection .state)) (runsIn x (connection .state)) (tagOf connection x) (off limits connection (parts limits connection well) x) (on limits connection (parts limits connection well) x) (fitting .effect x)
       ∙ ap (λ (r : Bool). timerOrder (starts x code (connection .state) to) (ends x code (connection .state) to) r (tagOf connection x)) (reports-by x code (input .timer) (fitting .no-timeout))
 
   -- What the code does for an event that moves on is what the definitions say.

@@ -1,1 +1,2 @@
+pub mod EveryTimer
 pub mod WellFormed

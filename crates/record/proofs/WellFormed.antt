@@ -1,73 +1,135 @@
--- A well-formed record, by its parts.
+-- A well-formed record is one that has all its parts.
 -- Assumes nothing.
 use mathlib.Core.Path.{_≡_}
-use mathlib.Core.Bool.{Bool, true, false, not, _&&_, cond}
+use mathlib.Core.Bool.{Bool, true, false, not, _&&_, _||_, cond}
+use mathlib.Core.List.{[], _∷_}
 use Prim.Native.Nat.{ℕ, _≤_}
 use native.Mathlib.Omega.{arith}
-use lib.Dec.{T, eqb, eqb→eq, leb, leb→le}
+use lib.Dec.{T, eqb, leb, leb→le}
+use borrow.Author.Tests.{le-leb, eqb-true, not-true}
 use Rattle.record.specs.Limits.{Limits}
 use Rattle.record.specs.Tags.{Timer, H, HP, HV, DAT, RA, ACK, tagOf, runsIn, raMayRun, isRa}
-use Rattle.record.specs.WellFormed.{fieldsFit, tagsAtMost, fitsState, onJustIn, wellFormed}
+use Rattle.record.specs.WellFormed.{fieldsFit, tagsAtMost, numberFits, bitsFit, flagFits, fitsState, onJustIn, wellFormed}
 use Rattle.record.specs.declared.Connection.{Connection}
-use Rattle.table.proofs.Finite.{and-left, and-right, is-false, below-at}
+use Rattle.table.specs.Sets.{isIn}
+use Rattle.record.proofs.EveryTimer.{timers, timers-at}
+use Rattle.table.proofs.Finite.{and-left, and-right, is-true, below-at}
+
+-- Whether a tag may be on or off in a state.
+abbrev pub freeIn : Timer → (state : ℕ) → Bool
+freeIn timer state = isRa timer && raMayRun state
 
 -- Whether a timer's tag is off in a state, whatever the record.
 abbrev pub offIn : Timer → (state : ℕ) → Bool
-offIn timer state = not (runsIn timer state) && not (isRa timer && raMayRun state)
+offIn timer state = not (runsIn timer state) && not (freeIn timer state)
 
-pub record Parts (connection : Connection) : Type 0 where
-  pub state : connection .state ≤ 9
-  pub flag : connection .«awaiting_ack» ≤ 1
-  pub off : (timer : Timer) → T (offIn timer (connection .state)) → tagOf connection timer ≡ 0
-  pub on : (timer : Timer) → T (runsIn timer (connection .state)) → eqb (tagOf connection timer) 0 ≡ false
+-- What document 01 says of a timer's tag: free, or on just where the timer runs.
+abbrev tagFits : Timer → Connection → Bool
+tagFits timer c = cond (freeIn timer (c .state)) true (onJustIn timer (c .state) (tagOf c timer))
 
--- A tag's rule where it is off, and where it is on.
-just-off : (runs free : Bool) (tag : ℕ) → T (cond free true (cond runs (not (eqb tag 0)) (eqb tag 0))) → T (not runs && not free) → tag ≡ 0
-just-off true free tag t o = absurd o
-just-off false true tag t o = absurd o
-just-off false false tag t o = eqb→eq tag 0 t
-
-just-on : (runs free : Bool) (tag : ℕ) → T (not (runs && free)) → T (cond free true (cond runs (not (eqb tag 0)) (eqb tag 0))) → T runs → eqb tag 0 ≡ false
-just-on true true tag n t o = absurd n
-just-on true false tag n t o = is-false (eqb tag 0) t
-just-on false free tag n t o = absurd o
-
-never-free : (runs : Bool) → T (not (runs && false))
-never-free true = tt
-never-free false = tt
-
--- RA is on or off in no state in which it runs.
-ra-free : (timer : Timer) (state : ℕ) → state ≤ 9 → T (not (runsIn timer state && (isRa timer && raMayRun state)))
-ra-free H state h = never-free (runsIn H state)
-ra-free HP state h = never-free (runsIn HP state)
-ra-free HV state h = never-free (runsIn HV state)
-ra-free DAT state h = never-free (runsIn DAT state)
-ra-free RA state h = below-at 10 (λ s. not (runsIn RA s && raMayRun s)) tt state (omega arith)
-ra-free ACK state h = never-free (runsIn ACK state)
-
-rule : (c : Connection) → T (fitsState (c .state) c) → (timer : Timer) → T (cond (isRa timer && raMayRun (c .state)) true (onJustIn timer (c .state) (tagOf c timer)))
-rule c t H = search (and-left, and-right) depth 16
-rule c t HP = search (and-left, and-right) depth 16
-rule c t HV = search (and-left, and-right) depth 16
-rule c t DAT = search (and-left, and-right) depth 16
-rule c t RA = search (and-left, and-right) depth 16
-rule c t ACK = search (and-left, and-right) depth 16
+pub record Parts (limits : Limits) (c : Connection) : Type 0 where
+  pub state : c .state ≤ 9
+  pub flag : c .«awaiting_ack» ≤ 1
+  pub next-send : c .«next_send_bit» ≤ 1
+  pub expected : c .«expected_bit» ≤ 1
+  pub length : c .«cached_len» ≤ limits .payload
+  pub empty : (eqb (c .«cached_len») 0 || not (eqb (c .«awaiting_ack») 0)) ≡ true
+  pub at-most : (timer : Timer) → tagOf c timer ≤ c .handled
+  pub number-fits : numberFits (c .state) (c .handled) ≡ true
+  pub bits-fit : bitsFit (c .state) (c .«next_send_bit») (c .«expected_bit») ≡ true
+  pub flag-fits : flagFits (c .state) (c .«awaiting_ack») ≡ true
+  pub tag-fits : (timer : Timer) → tagFits timer c ≡ true
 
 pub state-fits : (limits : Limits) (c : Connection) → T (fieldsFit limits c) → T (leb (c .state) 9)
 state-fits limits c t = search (and-left, and-right) depth 16
 
-flag-fits : (limits : Limits) (c : Connection) → T (fieldsFit limits c) → T (leb (c .«awaiting_ack») 1)
-flag-fits limits c t = search (and-left, and-right) depth 16
+tag-at-most : (c : Connection) → T (tagsAtMost (c .handled) c) → (timer : Timer) → T (leb (tagOf c timer) (c .handled))
+tag-at-most c t H = search (and-left, and-right) depth 16
+tag-at-most c t HP = search (and-left, and-right) depth 16
+tag-at-most c t HV = search (and-left, and-right) depth 16
+tag-at-most c t DAT = search (and-left, and-right) depth 16
+tag-at-most c t RA = search (and-left, and-right) depth 16
+tag-at-most c t ACK = search (and-left, and-right) depth 16
 
-pub parts : (limits : Limits) (c : Connection) → T (wellFormed limits c) → Parts c
+each-tag-fits : (c : Connection) → T (fitsState (c .state) c) → (timer : Timer) → T (tagFits timer c)
+each-tag-fits c t H = search (and-left, and-right) depth 16
+each-tag-fits c t HP = search (and-left, and-right) depth 16
+each-tag-fits c t HV = search (and-left, and-right) depth 16
+each-tag-fits c t DAT = search (and-left, and-right) depth 16
+each-tag-fits c t RA = search (and-left, and-right) depth 16
+each-tag-fits c t ACK = search (and-left, and-right) depth 16
+
+bits-by : (c : Connection) → T (fitsState (c .state) c) → T (bitsFit (c .state) (c .«next_send_bit») (c .«expected_bit»))
+bits-by c t = search (and-left, and-right) depth 16
+
+pub parts : (limits : Limits) (c : Connection) → T (wellFormed limits c) → Parts limits c
 unfolding wellFormed
 parts limits c t =
     let fields = and-left (fieldsFit limits c) _ (and-left (fieldsFit limits c && tagsAtMost (c .handled) c) _ t) in
+    let tags = and-right (fieldsFit limits c) _ (and-left (fieldsFit limits c && tagsAtMost (c .handled) c) _ t) in
     let fits = and-right (fieldsFit limits c && tagsAtMost (c .handled) c) _ t in
-    let small = leb→le (c .state) 9 (state-fits limits c fields) in
     record {
-      state = small;
-      flag = leb→le (c .«awaiting_ack») 1 (flag-fits limits c fields);
-      off = λ timer. just-off (runsIn timer (c .state)) (isRa timer && raMayRun (c .state)) (tagOf c timer) (rule c fits timer);
-      on = λ timer. just-on (runsIn timer (c .state)) (isRa timer && raMayRun (c .state)) (tagOf c timer) (ra-free timer (c .state) small) (rule c fits timer);
+      state = leb→le _ _ (state-fits limits c fields);
+      flag = leb→le _ _ (search (and-left, and-right) depth 16);
+      next-send = leb→le _ _ (search (and-left, and-right) depth 16);
+      expected = leb→le _ _ (search (and-left, and-right) depth 16);
+      length = leb→le _ _ (search (and-left, and-right) depth 16);
+      empty = is-true _ (search (and-left, and-right) depth 16);
+      at-most = λ timer. leb→le _ _ (tag-at-most c tags timer);
+      number-fits = is-true _ (search (and-left, and-right) depth 16);
+      bits-fit = is-true _ (bits-by c fits);
+      flag-fits = is-true _ (search (and-left, and-right) depth 16);
+      tag-fits = λ timer. is-true _ (each-tag-fits c fits timer);
     }
+
+pub whole : (limits : Limits) (c : Connection) → Parts limits c → T (wellFormed limits c)
+unfolding wellFormed
+whole limits c p =
+    let most : (timer : Timer) → leb (tagOf c timer) (c .handled) ≡ true = λ timer. le-leb _ _ (p .at-most timer) in
+    rw (
+      le-leb _ _ (p .state),
+      le-leb _ _ (p .flag),
+      le-leb _ _ (p .next-send),
+      le-leb _ _ (p .expected),
+      le-leb _ _ (p .length),
+      p .empty,
+      most H,
+      most HP,
+      most HV,
+      most DAT,
+      most RA,
+      most ACK,
+      p .number-fits,
+      p .bits-fit,
+      p .flag-fits,
+      p .tag-fits RA,
+      p .tag-fits H,
+      p .tag-fits HP,
+      p .tag-fits HV,
+      p .tag-fits DAT,
+      p .tag-fits ACK,
+    ) tt
+
+-- A tag's rule where it is off, and where it is on.
+just-off : (runs free : Bool) (tag : ℕ) → cond free true (cond runs (not (eqb tag 0)) (eqb tag 0)) ≡ true → T (not runs && not free) → tag ≡ 0
+just-off true free tag t o = absurd o
+just-off false true tag t o = absurd o
+just-off false false tag t o = eqb-true tag 0 t
+
+just-on : (runs free : Bool) (tag : ℕ) → T (not (runs && free)) → cond free true (cond runs (not (eqb tag 0)) (eqb tag 0)) ≡ true → T runs → eqb tag 0 ≡ false
+just-on true true tag n t o = absurd n
+just-on true false tag n t o = not-true (eqb tag 0) t
+just-on false free tag n t o = absurd o
+
+-- No timer is free in a state in which it runs.
+runs-or-free : (timer : Timer) (state : ℕ) → state ≤ 9 → T (not (runsIn timer state && freeIn timer state))
+runs-or-free timer state h =
+    timers-at (λ x. not (runsIn x state && freeIn x state))
+    (below-at 10 (λ s. timers (λ x. not (runsIn x s && freeIn x s))) tt state (omega arith)) timer
+
+module _ (limits : Limits) (c : Connection) (p : Parts limits c) (timer : Timer) where
+  pub off : T (offIn timer (c .state)) → tagOf c timer ≡ 0
+  off = just-off (runsIn timer (c .state)) (freeIn timer (c .state)) (tagOf c timer) (p .tag-fits timer)
+
+  pub on : T (runsIn timer (c .state)) → eqb (tagOf c timer) 0 ≡ false
+  on = just-on (runsIn timer (c .state)) (freeIn timer (c .state)) (tagOf c timer) (runs-or-free timer (c .state) (p .state)) (p .tag-fits timer)

@@ -1,7 +1,7 @@
 -- A test over every number below a bound, which antt computes, and what it says of one.
 -- Assumes nothing.
 use mathlib.Core.Path.{_≡_, refl, sym, subst}
-use mathlib.Core.Bool.{Bool, true, false, not, _&&_}
+use mathlib.Core.Bool.{Bool, true, false, not, _&&_, _||_, Bool·beq}
 use Prim.Native.Nat.{ℕ, zero, suc, _<_}
 use native.Mathlib.Decide.{ℕ-discrete}
 use native.Mathlib.Omega.{arith}
@@ -15,9 +15,24 @@ pub and-right : (a b : Bool) → T (a && b) → T b
 and-right true b t = t
 and-right false b t = absurd t
 
+pub is-true : (b : Bool) → T b → b ≡ true
+is-true true t = refl
+is-true false t = absurd t
+
 pub is-false : (b : Bool) → T (not b) → b ≡ false
 is-false true t = absurd t
 is-false false t = refl
+
+pub same : (a b : Bool) → T (Bool·beq a b) → a ≡ b
+same true true t = refl
+same true false t = absurd t
+same false true t = absurd t
+same false false t = refl
+
+-- An implication, as a test states it.
+pub implied : (a b : Bool) → T (not a || b) → T a → T b
+implied true b t u = t
+implied false b t u = absurd u
 
 abbrev pub below : ℕ → (ℕ → Bool) → Bool
 below zero p = true

@@ -1,0 +1,80 @@
+-- The record and the sheet of a handled event, slot by slot, whether it locks or not.
+-- Assumes nothing.
+use mathlib.Core.Path.{_≡_, refl, sym}
+use mathlib.Core.Bool.{Bool, true, false, cond}
+use Prim.Native.Nat.{ℕ}
+use lib.Dec.{eqb}
+use borrow.Author.Tests.{eqb-true}
+use Rattle.record.specs.Tags.{Timer, H, HP, HV, DAT, RA, ACK, tagOf}
+use Rattle.protocol.specs.Actions.{closing, messageOf, bitOf, sourceOf, lengthOf, lockingActions, movingActions, ordersOf, actionsOf}
+use Rattle.protocol.specs.Advance.{raised, flipped, locked, moved, tagsAfter, advance}
+use Rattle.protocol.specs.Orders as order
+use Rattle.protocol.specs.declared.Actions.{Actions}
+use Rattle.record.specs.declared.Connection.{Connection}
+use Rattle.event.specs.declared.Input.{Input}
+
+module _ (c : Connection) (code : ℕ) (input : Input) (to : ℕ) where
+  pub record Advanced (locks : Bool) (r : Connection) : Type 0 where
+    pub state : r .state ≡ to
+    pub flag : r .«awaiting_ack» ≡ cond locks 0 (cond (eqb code 2) 1 (cond (eqb code 19) 0 (c .«awaiting_ack»)))
+    pub next-send : r .«next_send_bit» ≡ cond locks 0 (cond (eqb code 19) (flipped (c .«next_send_bit»)) (c .«next_send_bit»))
+    pub expected : r .«expected_bit» ≡ cond locks 0 (cond (eqb code 18) (flipped (c .«expected_bit»)) (c .«expected_bit»))
+    pub length : r .«cached_len» ≡ cond locks 0 (cond (eqb code 2) (input .«payload_len») (cond (eqb code 19) 0 (c .«cached_len»)))
+    pub number : r .handled ≡ raised c
+    pub tag : (timer : Timer) → tagOf r timer ≡ tagsAfter c code to timer
+
+  -- Locking ends every timer and starts none.
+  no-tag : (timer : Timer) → to ≡ 9 → tagOf (locked (raised c)) timer ≡ tagsAfter c code to timer
+  no-tag H e = rw e
+  no-tag HP e = rw e
+  no-tag HV e = rw e
+  no-tag DAT e = rw e
+  no-tag RA e = rw e
+  no-tag ACK e = rw e
+
+  moved-tag : (timer : Timer) → tagOf (moved (tagsAfter c code to) (raised c) c code input to) timer ≡ tagsAfter c code to timer
+  moved-tag H = refl
+  moved-tag HP = refl
+  moved-tag HV = refl
+  moved-tag DAT = refl
+  moved-tag RA = refl
+  moved-tag ACK = refl
+
+  advanced-by : (locks : Bool) → eqb to 9 ≡ locks → Advanced locks (cond locks (locked (raised c)) (moved (tagsAfter c code to) (raised c) c code input to))
+  advanced-by true e = record {
+    state = sym (eqb-true to 9 e);
+    flag = refl;
+    next-send = refl;
+    expected = refl;
+    length = refl;
+    number = refl;
+    tag = λ timer. no-tag timer (eqb-true to 9 e);
+  }
+  advanced-by false e = record {
+    state = refl;
+    flag = refl;
+    next-send = refl;
+    expected = refl;
+    length = refl;
+    number = refl;
+    tag = moved-tag;
+  }
+
+  pub advanced : Advanced (eqb to 9) (advance c code input to)
+  unfolding advance
+  advanced = advanced-by (eqb to 9) refl
+
+  pub record Ordered (locks : Bool) (a : Actions) : Type 0 where
+    pub message : a .message ≡ cond locks (closing code) (messageOf code)
+    pub bit : a .bit ≡ cond locks 0 (bitOf code (c .«next_send_bit») (input .bit))
+    pub deliver : a .deliver ≡ cond locks false (eqb code 18)
+    pub slice : a .«payload_slice» ≡ cond locks order.none (sourceOf code)
+    pub length : a .«payload_len» ≡ cond locks 0 (lengthOf code (c .«cached_len») (input .«payload_len»))
+
+  ordered-by : (locks : Bool) (orders : Timer → ℕ) → Ordered locks (cond locks (lockingActions orders c code) (movingActions orders c code input))
+  ordered-by true orders = record { message = refl; bit = refl; deliver = refl; slice = refl; length = refl }
+  ordered-by false orders = record { message = refl; bit = refl; deliver = refl; slice = refl; length = refl }
+
+  pub ordered : Ordered (eqb to 9) (actionsOf c code input to)
+  unfolding actionsOf
+  ordered = ordered-by (eqb to 9) (ordersOf c code input to)

@@ -1,0 +1,196 @@
+-- The finite part of demand 3: every standing of the notes, every event code, with its condition held or not.
+-- One test, which antt computes, compares the published table and the timers' rules with the history's.
+-- Assumes nothing.
+use mathlib.Core.Path.{_≡_, refl}
+use mathlib.Core.Bool.{Bool, true, false, not, _&&_, _||_, cond, Bool·beq}
+use mathlib.Core.List.{[], _∷_}
+use Prim.Native.Nat.{ℕ, _<_, _≤_}
+use lib.Dec.{T, eqb, eqb→eq, leb, leb→le}
+use Rattle.record.specs.Tags.{Timer, H, runsIn, isRa}
+use Rattle.record.specs.WellFormed.{flagFits}
+use Rattle.table.specs.Sets.{isIn}
+use Rattle.table.specs.Table.{cell, settled, ignored}
+use Rattle.protocol.specs.Condition.{Condition, live, goodHello, goodToken, expectedBit, nextSendBit, nothing, conditionOf}
+use Rattle.protocol.specs.History.{Heard, locks, accepts, acknowledged, receives, counts, notesAfter, runs, restarts, stateOf}
+use Rattle.protocol.specs.Notes.{Opening, fresh, helloSent, opened, locked, Run, off, running, good, Notes, attested}
+use Rattle.protocol.specs.Timers.{starts, ends}
+use Rattle.record.proofs.EveryTimer.{timers, timers-at}
+use Rattle.record.proofs.WellFormed.{freeIn}
+use Rattle.table.proofs.Finite.{and-left, and-right, is-true, is-false, same, below, below-at, either, either-at}
+
+-- A test of every opening, of every run, and of all notes.
+abbrev openings : (Opening → Bool) → Bool
+openings p = p fresh && (p helloSent && (p opened && p locked))
+
+openings-at : (p : Opening → Bool) → T (openings p) → (o : Opening) → T (p o)
+openings-at p t fresh = search and-left
+openings-at p t helloSent = search (and-left, and-right) depth 8
+openings-at p t opened = search (and-left, and-right) depth 8
+openings-at p t locked = search (and-left, and-right) depth 8
+
+abbrev eachRun : (Run → Bool) → Bool
+eachRun p = p off && (p running && p good)
+
+each-run-at : (p : Run → Bool) → T (eachRun p) → (r : Run) → T (p r)
+each-run-at p t off = search and-left
+each-run-at p t running = search (and-left, and-right) depth 8
+each-run-at p t good = search (and-left, and-right) depth 8
+
+abbrev standing : Opening → Bool → Run → Run → Bool → Notes
+standing o c p v w = record { opening = o; current = c; prover = p; verifier = v; waiting = w }
+
+abbrev standings : (Notes → Bool) → Bool
+standings p = openings (λ o. either (λ c. eachRun (λ q. eachRun (λ v. either (λ w. p (standing o c q v w))))))
+
+standings-at : (p : Notes → Bool) → T (standings p) → (n : Notes) → T (p n)
+standings-at p t n =
+    either-at (λ w. p (standing (n .opening) (n .current) (n .prover) (n .verifier) w))
+    (each-run-at (λ v. either (λ w. p (standing (n .opening) (n .current) (n .prover) v w)))
+    (each-run-at (λ q. eachRun (λ v. either (λ w. p (standing (n .opening) (n .current) q v w))))
+    (either-at (λ c. eachRun (λ q. eachRun (λ v. either (λ w. p (standing (n .opening) c q v w)))))
+    (openings-at (λ o. either (λ c. eachRun (λ q. eachRun (λ v. either (λ w. p (standing o c q v w)))))) t (n .opening))
+    (n .current)) (n .prover)) (n .verifier)) (n .waiting)
+
+-- Which notes stand together: nothing before the opening; then the prover has started, and so has the verifier just while
+-- the token is current; nothing waits once locked.
+abbrev isOff : Run → Bool
+isOff off = true
+isOff running = false
+isOff good = false
+
+abbrev consistentBy : Opening → (current proverOff verifierOff waiting : Bool) → Bool
+consistentBy fresh c p v w = not c && (p && (v && not w))
+consistentBy helloSent c p v w = not c && (p && (v && not w))
+consistentBy opened c p v w = not p && Bool·beq c (not v)
+consistentBy locked c p v w = not w
+
+unfoldable pub consistent : Notes → Bool
+consistent n = consistentBy (n .opening) (n .current) (isOff (n .prover)) (isOff (n .verifier)) (n .waiting)
+
+-- The flag of a record for these notes.
+abbrev pub flagOf : Notes → ℕ
+flagOf n = cond (n .waiting) 1 0
+
+-- Of the notes alone: the timers that run are those of the state, and the state and the flag fit.
+abbrev pub fitsAlone : Notes → Bool
+fitsAlone n =
+    timers (λ x. Bool·beq (runsIn x (stateOf n)) (runs n x))
+    && leb (stateOf n) 9
+    && flagFits (stateOf n) (flagOf n)
+
+-- One answer to whatever the history may hear.
+abbrev pub only : Bool → Heard
+only h = record { live = λ x. h; named = H; goodHello = h; goodToken = h; expectedBit = h; nextSendBit = h }
+
+-- What the history hears of a condition, and how that goes with whether it holds for the record: a locked record has forgotten
+-- its bits, and RA may be on in the record where the history has it off.
+abbrev pub related : Notes → Condition → (held heard : Bool) → Bool
+related n (live x) b h = Bool·beq h (runs n x && b) && (not b || (runs n x || isRa x))
+related n goodHello b h = Bool·beq b h
+related n goodToken b h = Bool·beq b h
+related n expectedBit b h = eqb (stateOf n) 9 || Bool·beq b h
+related n nextSendBit b h = Bool·beq b (n .waiting && h)
+related n nothing b h = b && h
+
+-- Whether a timer's rules fit the history's: it was running or not, is or not, was free in the record or not, is or not.
+abbrev pub tagGoes : (was is wasFree isFree started ended again : Bool) → Bool
+tagGoes was is wasFree isFree started ended again =
+    cond is (Bool·beq started (not was || again) && (started || not ended)) (not started && (ended || (isFree || (not was && not wasFree))))
+
+-- Of an event that counts and leads from notes to others: what the history does, and what the record's rules do.
+abbrev pub moves : Notes → (code : ℕ) → Heard → Notes → Bool
+moves n k heard m =
+    consistent m
+    && not (eqb (stateOf m) 0)
+    && not (eqb (stateOf n) 9)
+    && Bool·beq (acknowledged n k heard) (eqb k 19)
+    && Bool·beq (receives n k heard) (eqb k 18)
+    && Bool·beq (accepts n k) (eqb k 2)
+    && Bool·beq (cond (eqb (stateOf m) 9) false (cond (eqb k 2) true (cond (eqb k 19) false (n .waiting)))) (m .waiting)
+    && (not (isIn (0 ∷ 1 ∷ []) (stateOf m)) || (isIn (0 ∷ 1 ∷ []) (stateOf n) && (not (eqb k 18) && not (eqb k 19))))
+    && timers (λ x. tagGoes (runs n x) (runs m x) (freeIn x (stateOf n)) (freeIn x (stateOf m)) (starts x k (stateOf n) (stateOf m)) (ends x k (stateOf n) (stateOf m)) (restarts x k))
+    && (not (isIn (2 ∷ 18 ∷ 23 ∷ []) k) || (attested n && attested m))
+    && (not (eqb k 23) || n .waiting)
+
+-- The table leads where the notes lead, or ignores what doesn't count.
+abbrev pub agrees : Notes → (code : ℕ) (held heard : Bool) → Bool
+agrees n k b h =
+    eqb (settled (flagOf n) (cell (stateOf n) k b)) (cond (counts n k (only h)) (stateOf (notesAfter n k (only h))) ignored)
+    && cond (counts n k (only h)) (moves n k (only h) (notesAfter n k (only h))) true
+
+abbrev pub agreesIf : Notes → (code name : ℕ) (held heard : Bool) → Bool
+agreesIf n k name b h = cond (related n (conditionOf k name) b h) (agrees n k b h) true
+
+abbrev right : Notes → Bool
+right n = cond (consistent n) (fitsAlone n && below 24 (λ k. below 3 (λ name. either (λ b. either (agreesIf n k name b))))) true
+
+all-right : T (standings right)
+unfolding consistent stateOf runs counts notesAfter cell
+all-right = tt
+
+-- What the test says of consistent notes.
+chosen : (b x : Bool) → T (cond b x true) → T b → T x
+chosen true x t u = t
+chosen false x t u = absurd u
+
+right-at : (n : Notes) → T (consistent n) → T (fitsAlone n && below 24 (λ k. below 3 (λ name. either (λ b. either (agreesIf n k name b)))))
+right-at n c = chosen (consistent n) _ (standings-at right all-right n) c
+
+-- Of the notes alone.
+pub record Alone (n : Notes) : Type 0 where
+  pub running : (x : Timer) → runsIn x (stateOf n) ≡ runs n x
+  pub state : stateOf n ≤ 9
+  pub flag : flagFits (stateOf n) (flagOf n) ≡ true
+
+pub alone : (n : Notes) → T (consistent n) → Alone n
+alone n c =
+    let t : T (fitsAlone n) = and-left (fitsAlone n) _ (right-at n c) in
+    record {
+      running = λ x. same (runsIn x (stateOf n)) (runs n x) (timers-at (λ x. Bool·beq (runsIn x (stateOf n)) (runs n x)) (search (and-left, and-right) depth 8) x);
+      state = leb→le _ _ (search (and-left, and-right) depth 8);
+      flag = is-true _ (search (and-left, and-right) depth 8);
+    }
+
+-- Of an event that counts.
+pub record Moves (n : Notes) (k : ℕ) (heard : Heard) (m : Notes) : Type 0 where
+  pub consistent-after : T (consistent m)
+  pub begun : eqb (stateOf m) 0 ≡ false
+  pub unlocked : eqb (stateOf n) 9 ≡ false
+  pub acknowledges : acknowledged n k heard ≡ eqb k 19
+  pub receives-is : receives n k heard ≡ eqb k 18
+  pub accepts-is : accepts n k ≡ eqb k 2
+  pub waits : cond (eqb (stateOf m) 9) false (cond (eqb k 2) true (cond (eqb k 19) false (n .waiting))) ≡ m .waiting
+  pub early : T (not (isIn (0 ∷ 1 ∷ []) (stateOf m)) || (isIn (0 ∷ 1 ∷ []) (stateOf n) && (not (eqb k 18) && not (eqb k 19))))
+  pub tags : (x : Timer) → T (tagGoes (runs n x) (runs m x) (freeIn x (stateOf n)) (freeIn x (stateOf m)) (starts x k (stateOf n) (stateOf m)) (ends x k (stateOf n) (stateOf m)) (restarts x k))
+  pub guarded : T (not (isIn (2 ∷ 18 ∷ 23 ∷ []) k) || (attested n && attested m))
+  pub repeats : T (not (eqb k 23) || n .waiting)
+
+moves-by : (n : Notes) (k : ℕ) (heard : Heard) (m : Notes) → T (moves n k heard m) → Moves n k heard m
+moves-by n k heard m t = record {
+  consistent-after = search (and-left, and-right) depth 16;
+  begun = is-false _ (search (and-left, and-right) depth 16);
+  unlocked = is-false _ (search (and-left, and-right) depth 16);
+  acknowledges = same _ _ (search (and-left, and-right) depth 16);
+  receives-is = same _ _ (search (and-left, and-right) depth 16);
+  accepts-is = same _ _ (search (and-left, and-right) depth 16);
+  waits = same _ _ (search (and-left, and-right) depth 16);
+  early = search (and-left, and-right) depth 16;
+  tags = timers-at (λ x. tagGoes (runs n x) (runs m x) (freeIn x (stateOf n)) (freeIn x (stateOf m)) (starts x k (stateOf n) (stateOf m)) (ends x k (stateOf n) (stateOf m)) (restarts x k)) (search (and-left, and-right) depth 16);
+  guarded = search (and-left, and-right) depth 16;
+  repeats = search (and-left, and-right) depth 16;
+}
+
+-- Of any event whose condition the record and the history answer alike.
+pub record Agree (n : Notes) (k : ℕ) (b h : Bool) : Type 0 where
+  pub next : settled (flagOf n) (cell (stateOf n) k b) ≡ cond (counts n k (only h)) (stateOf (notesAfter n k (only h))) ignored
+  pub move : T (counts n k (only h)) → Moves n k (only h) (notesAfter n k (only h))
+
+pub agree : (n : Notes) (k name : ℕ) (b h : Bool) → T (consistent n) → k < 24 → name < 3 → T (related n (conditionOf k name) b h) → Agree n k b h
+agree n k name b h c hk hn r =
+    let t = and-right (fitsAlone n) _ (right-at n c) in
+    let u = either-at (agreesIf n k name b) (either-at (λ b. either (agreesIf n k name b)) (below-at 3 (λ name. either (λ b. either (agreesIf n k name b))) (below-at 24 (λ k. below 3 (λ name. either (λ b. either (agreesIf n k name b)))) t k hk) name hn) b) h in
+    let a = chosen (related n (conditionOf k name) b h) (agrees n k b h) u r in
+    record {
+      next = eqb→eq _ _ (and-left (eqb (settled (flagOf n) (cell (stateOf n) k b)) _) _ a);
+      move = λ m. moves-by n k (only h) (notesAfter n k (only h)) (chosen (counts n k (only h)) _ (and-right (eqb (settled (flagOf n) (cell (stateOf n) k b)) _) _ a) m);
+    }
