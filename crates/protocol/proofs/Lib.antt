@@ -1,7 +1,10 @@
 pub mod Blocks
 pub mod Cases
 pub mod Decided
+pub mod Follows
+mod Hearing
 pub mod Joined
+mod Kept
 pub mod Moved
 mod Standings
 pub mod Stepped

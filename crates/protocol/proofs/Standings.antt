@@ -97,14 +97,29 @@ abbrev pub tagGoes : (was is wasFree isFree started ended again : Bool) → Bool
 tagGoes was is wasFree isFree started ended again =
     cond is (Bool·beq started (not was || again) && (started || not ended)) (not started && (ended || (isFree || (not was && not wasFree))))
 
--- Of an event that counts and leads from notes to others: what the history does, and what the record's rules do.
-abbrev pub moves : Notes → (code : ℕ) → Heard → Notes → Bool
-moves n k heard m =
+-- What the history's rules say of an event.
+pub record Ruled : Type 0 where
+  pub counts : Bool
+  pub after : Notes
+  pub acknowledged : Bool
+  pub receives : Bool
+
+abbrev pub ruled : Notes → (code : ℕ) → Heard → Ruled
+ruled n k heard = record {
+  counts = counts n k heard;
+  after = notesAfter n k heard;
+  acknowledged = acknowledged n k heard;
+  receives = receives n k heard;
+}
+
+-- Of an event that counts, from notes n to notes m: what the history does, and what the record's rules do.
+abbrev moves : Notes → (code : ℕ) → Ruled → (m : Notes) → Bool
+moves n k r m =
     consistent m
     && not (eqb (stateOf m) 0)
     && not (eqb (stateOf n) 9)
-    && Bool·beq (acknowledged n k heard) (eqb k 19)
-    && Bool·beq (receives n k heard) (eqb k 18)
+    && Bool·beq (r .acknowledged) (eqb k 19)
+    && Bool·beq (r .receives) (eqb k 18)
     && Bool·beq (accepts n k) (eqb k 2)
     && Bool·beq (cond (eqb (stateOf m) 9) false (cond (eqb k 2) true (cond (eqb k 19) false (n .waiting)))) (m .waiting)
     && (not (isIn (0 ∷ 1 ∷ []) (stateOf m)) || (isIn (0 ∷ 1 ∷ []) (stateOf n) && (not (eqb k 18) && not (eqb k 19))))
@@ -113,13 +128,13 @@ moves n k heard m =
     && (not (eqb k 23) || n .waiting)
 
 -- The table leads where the notes lead, or ignores what doesn't count.
-abbrev pub agrees : Notes → (code : ℕ) (held heard : Bool) → Bool
-agrees n k b h =
-    eqb (settled (flagOf n) (cell (stateOf n) k b)) (cond (counts n k (only h)) (stateOf (notesAfter n k (only h))) ignored)
-    && cond (counts n k (only h)) (moves n k (only h) (notesAfter n k (only h))) true
+abbrev agrees : Notes → (code : ℕ) (held : Bool) → Ruled → Bool
+agrees n k b r =
+    eqb (settled (flagOf n) (cell (stateOf n) k b)) (cond (r .counts) (stateOf (r .after)) ignored)
+    && cond (r .counts) (moves n k r (r .after)) true
 
-abbrev pub agreesIf : Notes → (code name : ℕ) (held heard : Bool) → Bool
-agreesIf n k name b h = cond (related n (conditionOf k name) b h) (agrees n k b h) true
+abbrev agreesIf : Notes → (code name : ℕ) (held heard : Bool) → Bool
+agreesIf n k name b h = cond (related n (conditionOf k name) b h) (agrees n k b (ruled n k (only h))) true
 
 abbrev right : Notes → Bool
 right n = cond (consistent n) (fitsAlone n && below 24 (λ k. below 3 (λ name. either (λ b. either (agreesIf n k name b))))) true
@@ -152,12 +167,12 @@ alone n c =
     }
 
 -- Of an event that counts.
-pub record Moves (n : Notes) (k : ℕ) (heard : Heard) (m : Notes) : Type 0 where
+pub record Moves (n : Notes) (k : ℕ) (r : Ruled) (m : Notes) : Type 0 where
   pub consistent-after : T (consistent m)
   pub begun : eqb (stateOf m) 0 ≡ false
   pub unlocked : eqb (stateOf n) 9 ≡ false
-  pub acknowledges : acknowledged n k heard ≡ eqb k 19
-  pub receives-is : receives n k heard ≡ eqb k 18
+  pub acknowledges : r .acknowledged ≡ eqb k 19
+  pub receives-is : r .receives ≡ eqb k 18
   pub accepts-is : accepts n k ≡ eqb k 2
   pub waits : cond (eqb (stateOf m) 9) false (cond (eqb k 2) true (cond (eqb k 19) false (n .waiting))) ≡ m .waiting
   pub early : T (not (isIn (0 ∷ 1 ∷ []) (stateOf m)) || (isIn (0 ∷ 1 ∷ []) (stateOf n) && (not (eqb k 18) && not (eqb k 19))))
@@ -165,8 +180,8 @@ pub record Moves (n : Notes) (k : ℕ) (heard : Heard) (m : Notes) : Type 0 wher
   pub guarded : T (not (isIn (2 ∷ 18 ∷ 23 ∷ []) k) || (attested n && attested m))
   pub repeats : T (not (eqb k 23) || n .waiting)
 
-moves-by : (n : Notes) (k : ℕ) (heard : Heard) (m : Notes) → T (moves n k heard m) → Moves n k heard m
-moves-by n k heard m t = record {
+moves-by : (n : Notes) (k : ℕ) (r : Ruled) (m : Notes) → T (moves n k r m) → Moves n k r m
+moves-by n k r m t = record {
   consistent-after = search (and-left, and-right) depth 16;
   begun = is-false _ (search (and-left, and-right) depth 16);
   unlocked = is-false _ (search (and-left, and-right) depth 16);
@@ -180,17 +195,21 @@ moves-by n k heard m t = record {
   repeats = search (and-left, and-right) depth 16;
 }
 
--- Of any event whose condition the record and the history answer alike.
-pub record Agree (n : Notes) (k : ℕ) (b h : Bool) : Type 0 where
-  pub next : settled (flagOf n) (cell (stateOf n) k b) ≡ cond (counts n k (only h)) (stateOf (notesAfter n k (only h))) ignored
-  pub move : T (counts n k (only h)) → Moves n k (only h) (notesAfter n k (only h))
+-- Of any event whose condition the record holds and the history hears alike.
+pub record Agree (n : Notes) (k : ℕ) (b : Bool) (r : Ruled) : Type 0 where
+  pub next : settled (flagOf n) (cell (stateOf n) k b) ≡ cond (r .counts) (stateOf (r .after)) ignored
+  pub move : T (r .counts) → Moves n k r (r .after)
 
-pub agree : (n : Notes) (k name : ℕ) (b h : Bool) → T (consistent n) → k < 24 → name < 3 → T (related n (conditionOf k name) b h) → Agree n k b h
+agree-by : (n : Notes) (k : ℕ) (b : Bool) (r : Ruled) → T (agrees n k b r) → Agree n k b r
+agree-by n k b r t = record {
+  next = eqb→eq _ _ (and-left (eqb (settled (flagOf n) (cell (stateOf n) k b)) _) _ t);
+  move = λ c. moves-by n k r (r .after) (chosen (r .counts) _ (and-right (eqb (settled (flagOf n) (cell (stateOf n) k b)) _) _ t) c);
+}
+
+pub agree : (n : Notes) (k name : ℕ) (b h : Bool) → T (consistent n) → k < 24 → name < 3 → T (related n (conditionOf k name) b h) → Agree n k b (ruled n k (only h))
 agree n k name b h c hk hn r =
     let t = and-right (fitsAlone n) _ (right-at n c) in
-    let u = either-at (agreesIf n k name b) (either-at (λ b. either (agreesIf n k name b)) (below-at 3 (λ name. either (λ b. either (agreesIf n k name b))) (below-at 24 (λ k. below 3 (λ name. either (λ b. either (agreesIf n k name b)))) t k hk) name hn) b) h in
-    let a = chosen (related n (conditionOf k name) b h) (agrees n k b h) u r in
-    record {
-      next = eqb→eq _ _ (and-left (eqb (settled (flagOf n) (cell (stateOf n) k b)) _) _ a);
-      move = λ m. moves-by n k (only h) (notesAfter n k (only h)) (chosen (counts n k (only h)) _ (and-right (eqb (settled (flagOf n) (cell (stateOf n) k b)) _) _ a) m);
-    }
+    let u = below-at 24 (λ k. below 3 (λ name. either (λ b. either (agreesIf n k name b)))) t k hk in
+    let v = below-at 3 (λ name. either (λ b. either (agreesIf n k name b))) u name hn in
+    let w = either-at (agreesIf n k name b) (either-at (λ b. either (agreesIf n k name b)) v b) h in
+    agree-by n k b (ruled n k (only h)) (chosen (related n (conditionOf k name) b h) _ w r)
