@@ -90,7 +90,7 @@ at-code : (k n : ℕ) (p : ℕ → Bool) (b : Bool) → T (not (p k) || b) → k
 at-code k n p b t e u = implied (p k) b t (subst⁻¹ (λ (m : ℕ). T (p m)) e u)
 
 -- The first bytes of a slice that has them.
-front-of : (n : ℕ) (bytes : List ℕ) → n ≤ length bytes → front n bytes ≡ take n bytes
+pub front-of : (n : ℕ) (bytes : List ℕ) → n ≤ length bytes → front n bytes ≡ take n bytes
 front-of n bytes h = rw (le-leb n (length bytes) h)
 
 front-stored : (payload cache : List ℕ) → front (length payload) (stored payload cache) ≡ payload
@@ -138,6 +138,11 @@ pub record Blocks (limits : Limits) (connection : Connection) (call : Call) (cac
   pub repeats : call .event .code ≡ 23 → connection .«awaiting_ack» ≡ 1
   pub receives : call .event .code ≡ 18 → call .event .bit ≡ connection .«expected_bit»
   pub acknowledges : call .event .code ≡ 19 → (connection .«awaiting_ack» ≡ 1) × (call .event .bit ≡ connection .«next_send_bit»)
+  -- DATA is ordered by 2 and 23, with the next-send bit; ACK, and delivery, by 18.
+  pub is-data : eqb (result .outcome .actions .message) order.DATA ≡ isIn (2 ∷ 23 ∷ []) (call .event .code)
+  pub is-ack : eqb (result .outcome .actions .message) order.ACK ≡ eqb (call .event .code) 18
+  pub delivers : result .outcome .actions .deliver ≡ eqb (call .event .code) 18
+  pub data-bit : T (isIn (2 ∷ 23 ∷ []) (call .event .code)) → result .outcome .actions .bit ≡ connection .«next_send_bit»
   pub data-ordered : dataOf result ≡ when (isIn (2 ∷ 23 ∷ []) (call .event .code)) (block (connection .«next_send_bit») (cond (eqb (call .event .code) 2) (call .payload) (front (connection .«cached_len») cache)))
   pub ack-ordered : ackOf result ≡ when (eqb (call .event .code) 18) (call .event .bit)
   pub delivered : deliveredOf result ≡ when (eqb (call .event .code) 18) (call .payload)
@@ -213,11 +218,25 @@ module _ (limits : Limits) (connection : Connection) (call : Call) (cache : List
   unfolding inputBy
   bit-18 e = bit-is 18 e tt ∙ own-bit (call .event) 18 refl e
 
-  -- The block that DATA carries.
+  is-data : eqb (actionsOf connection k input to .message) order.DATA ≡ isIn (2 ∷ 23 ∷ []) k
+  is-data = ap (λ (m : ℕ). eqb m order.DATA) (sheet .message) ∙ handles .is-data
+
+  is-ack : eqb (actionsOf connection k input to .message) order.ACK ≡ eqb k 18
+  is-ack = ap (λ (m : ℕ). eqb m order.ACK) (sheet .message) ∙ handles .is-ack
+
+  delivers : actionsOf connection k input to .deliver ≡ eqb k 18
+  delivers = sheet .deliver ∙ unless-locked (eqb to 9) (eqb k 18) (λ t. open-still 18 (eqb→eq k 18 t) tt)
+
+  -- The bit and the block that DATA carries.
+  data-bit : (accepts repeats : Bool) → eqb k 2 ≡ accepts → eqb k 23 ≡ repeats → T (accepts || repeats) → actionsOf connection k input to .bit ≡ connection .«next_send_bit»
+  data-bit true b e f t = bit-is 2 (eqb-true k 2 e) tt
+  data-bit false true e f t = bit-is 23 (eqb-true k 23 f) tt
+  data-bit false false e f t = absurd t
+
   sent : (accepts repeats : Bool) → eqb k 2 ≡ accepts → eqb k 23 ≡ repeats → T (accepts || repeats)
       → block (actionsOf connection k input to .bit) (result .part) ≡ block (connection .«next_send_bit») (cond accepts (call .payload) (front (connection .«cached_len») cache))
-  sent true b e f t = let c = eqb-true k 2 e in λ i. block (bit-is 2 c tt i) (part-2 c i)
-  sent false true e f t = let c = eqb-true k 23 f in λ i. block (bit-is 23 c tt i) (part-23 c i)
+  sent true b e f t = λ i. block (data-bit true b e f t i) (part-2 (eqb-true k 2 e) i)
+  sent false true e f t = λ i. block (data-bit false true e f t i) (part-23 (eqb-true k 23 f) i)
   sent false false e f t = absurd t
 
   after : Advanced connection k input to (eqb to 9) (result .outcome .connection)
@@ -257,14 +276,12 @@ module _ (limits : Limits) (connection : Connection) (call : Call) (cache : List
     repeats = λ e. eqb→eq (connection .«awaiting_ack») 1 (at-code k 23 (λ m. eqb m 23) _ (handles .repeats) e tt);
     receives = received;
     acknowledges = acknowledged;
-    data-ordered =
-        when-same (eqb (actionsOf connection k input to .message) order.DATA) (isIn (2 ∷ 23 ∷ []) k) _ _
-        (ap (λ (m : ℕ). eqb m order.DATA) (sheet .message) ∙ handles .is-data) (sent (eqb k 2) (eqb k 23) refl refl);
-    ack-ordered =
-        when-same (eqb (actionsOf connection k input to .message) order.ACK) (eqb k 18) _ _
-        (ap (λ (m : ℕ). eqb m order.ACK) (sheet .message) ∙ handles .is-ack) (λ t. bit-18 (eqb→eq k 18 t));
-    delivered =
-        when-same (actionsOf connection k input to .deliver) (eqb k 18) _ _
-        (sheet .deliver ∙ unless-locked (eqb to 9) (eqb k 18) (λ t. open-still 18 (eqb→eq k 18 t) tt)) (λ t. part-18 (eqb→eq k 18 t));
+    is-data = is-data;
+    is-ack = is-ack;
+    delivers = delivers;
+    data-bit = data-bit (eqb k 2) (eqb k 23) refl refl;
+    data-ordered = when-same _ _ _ _ is-data (sent (eqb k 2) (eqb k 23) refl refl);
+    ack-ordered = when-same _ _ _ _ is-ack (λ t. bit-18 (eqb→eq k 18 t));
+    delivered = when-same _ _ _ _ delivers (λ t. part-18 (eqb→eq k 18 t));
     held = ap (λ (n : ℕ). front n (result .cache)) (after .length) ∙ held-by (eqb to 9) (eqb k 2) (eqb k 19) refl (λ t. carries 2 (eqb→eq k 2 t) tt tt);
   }

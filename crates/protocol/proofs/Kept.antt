@@ -182,7 +182,7 @@ module _ (limits : Limits) (size : ℕ) (history : History) (connection : Connec
         let s = sinceAfter (runs n x) (runs m x) (restarts x k) (history .count + 1) (history .since x) in
         tag-is x
         ∙ tag-law (runs n x) (runs m x) (freeIn x (stands history)) (freeIn x (stateOf m)) (starts x k (stands history) (stateOf m)) (ends x k (stands history) (stateOf m)) (restarts x k)
-          (history .count + 1) (history .since x) (tagOf connection x) (R .tag x) (G .tags x)
+        (history .count + 1) (history .since x) (tagOf connection x) (R .tag x) (G .tags x)
         ∙ ap (λ (v : ℕ). cond (runs m x) s (cond (freeIn x (stateOf m)) v 0)) (sym (tag-is x))
 
     tag-past : (x : Timer) → tagOf c′ x ≤ c′ .handled
@@ -195,9 +195,10 @@ module _ (limits : Limits) (size : ℕ) (history : History) (connection : Connec
 
     early : T (isIn (0 ∷ 1 ∷ []) (stateOf m)) → (cond (acknowledged n k heard) (flipped (history .nextSend)) (history .nextSend) ≡ 0) × (cond (receives n k heard) (flipped (history .expected)) (history .expected) ≡ 0)
     early t =
-        let b = early-law (isIn (0 ∷ 1 ∷ []) (stateOf m)) (isIn (0 ∷ 1 ∷ []) (stands history)) (eqb k 18) (eqb k 19) (history .nextSend) (history .expected) (R .early) (G .early) t in
-        (ap (λ (a : Bool). cond a (flipped (history .nextSend)) (history .nextSend)) (G .acknowledges) ∙ b .0,
-         ap (λ (a : Bool). cond a (flipped (history .expected)) (history .expected)) (G .receives-is) ∙ b .1)
+        let b = early-law (isIn (0 ∷ 1 ∷ []) (stateOf m)) (isIn (0 ∷ 1 ∷ []) (stands history)) (eqb k 18) (eqb k 19) (history .nextSend) (history .expected) (R .early) (G .early) t in (
+          ap (λ (a : Bool). cond a (flipped (history .nextSend)) (history .nextSend)) (G .acknowledges) ∙ b .0,
+          ap (λ (a : Bool). cond a (flipped (history .expected)) (history .expected)) (G .receives-is) ∙ b .1,
+        )
 
     length-after : c′ .«cached_len» ≡ cond (m .waiting) (length block′) 0
     length-after =
