@@ -39,14 +39,14 @@ use Rattle.table.proofs.Arms.{at-keys, one-of}
 use Rattle.table.proofs.Finite.{and-left, and-right, is-true, implied}
 
 -- While a block waits it is the one last accepted.
-abbrev Waits : History → (accepted : Option Block) → Type 0
+abbrev pub Waits : History → (accepted : Option Block) → Type 0
 Waits history accepted = T (history .notes .waiting) → accepted ≡ some (block (history .nextSend) (history .block))
 
 -- A call agrees with the history, and what it leaves follows the history after it.
-record Carried (limits : Limits) (size : ℕ) (history : History) (accepted : Option Block) (call : Call) (answer : Answer) (after : History) (result : Result) : Type 0 where
-  agrees : Agrees answer history after (acceptedAfter accepted call result) call result
-  follows : Follows limits size after (result .outcome .connection) (result .cache)
-  waits : Waits after (acceptedAfter accepted call result)
+pub record Carried (limits : Limits) (size : ℕ) (history : History) (accepted : Option Block) (call : Call) (answer : Answer) (after : History) (result : Result) : Type 0 where
+  pub agrees : Agrees answer history after (acceptedAfter accepted call result) call result
+  pub follows : Follows limits size after (result .outcome .connection) (result .cache)
+  pub waits : Waits after (acceptedAfter accepted call result)
 
 -- A call that is not handled changes nothing.
 module _ (limits : Limits) (size : ℕ) (history : History) (accepted : Option Block) (connection : Connection) (cache : List ℕ)
@@ -279,24 +279,24 @@ module _ (limits : Limits) (history : History) (accepted : Option Block) (connec
       (heeded limits history accepted connection cache R W call (arguments-fit e) counting) refl)))
       (moves limits history accepted connection cache R W call (arguments-fit e) counting)
 
-  one-call : Carried limits (length cache) history accepted call (answerOf limits (length cache) history call) (historyAfter limits (length cache) history call) (resultOf limits connection call cache)
+  carried : Carried limits (length cache) history accepted call (answerOf limits (length cache) history call) (historyAfter limits (length cache) history call) (resultOf limits connection call cache)
   unfolding answerOf historyAfter
-  one-call = carried-by (eqb fault 0) (counts (history .notes) code (hear history read)) (eqb (history .count) (limits .handled)) refl refl refl
+  carried = carried-by (eqb fault 0) (counts (history .notes) code (hear history read)) (eqb (history .count) (limits .handled)) refl refl refl
 
--- The same, with the size of the first cache.
-one-call-of : (limits : Limits) (size : ℕ) (history : History) (accepted : Option Block) (connection : Connection) (cache : List ℕ)
+-- One call, with the size of the first cache.
+pub one-call : (limits : Limits) (size : ℕ) (history : History) (accepted : Option Block) (connection : Connection) (cache : List ℕ)
     → Follows limits size history connection cache → Waits history accepted → (call : Call)
     → Carried limits size history accepted call (answerOf limits size history call) (historyAfter limits size history call) (resultOf limits connection call cache)
-one-call-of limits size history accepted connection cache R W call =
+one-call limits size history accepted connection cache R W call =
     subst (λ (s : ℕ). Carried limits s history accepted call (answerOf limits s history call) (historyAfter limits s history call) (resultOf limits connection call cache)) (R .size-is)
-    (one-call limits history accepted connection cache (subst⁻¹ (λ (s : ℕ). Follows limits s history connection cache) (R .size-is) R) W call)
+    (carried limits history accepted connection cache (subst⁻¹ (λ (s : ℕ). Follows limits s history connection cache) (R .size-is) R) W call)
 
 every-call : (limits : Limits) (size : ℕ) (history : History) (accepted : Option Block) (connection : Connection) (cache : List ℕ) (calls : List Call)
     → Follows limits size history connection cache → Waits history accepted → AllAgree limits size history accepted calls (resultsOf limits connection cache calls)
 unfolding AllAgree resultsOf
 every-call limits size history accepted connection cache [] R W = tt
 every-call limits size history accepted connection cache (call ∷ calls) R W =
-    let c = one-call-of limits size history accepted connection cache R W call in
+    let c = one-call limits size history accepted connection cache R W call in
     let result = resultOf limits connection call cache in
     (c .agrees, every-call limits size (historyAfter limits size history call) (acceptedAfter accepted call result) (result .outcome .connection) (result .cache) calls (c .follows) (c .waits))
 

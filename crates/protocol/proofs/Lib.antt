@@ -1,4 +1,5 @@
 pub mod Agreement
+pub mod Always
 pub mod Blocks
 pub mod Cases
 pub mod Decided

@@ -11,3 +11,4 @@ pub mod Cases
 pub mod Notes
 pub mod History
 pub mod Agreement
+pub mod Always

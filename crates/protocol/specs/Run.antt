@@ -12,3 +12,15 @@ resultsOf limits connection cache [] = []
 resultsOf limits connection cache (call ∷ calls) =
     let result = resultOf limits connection call cache in
     result ∷ resultsOf limits (result .outcome .connection) (result .cache) calls
+
+-- The record and the cache that a list of calls leaves.
+pub record Left : Type 0 where
+  pub connection : Connection
+  pub cache : List ℕ
+
+-- What is left after a list of calls, from a record and a cache.
+unfoldable pub leftOf : Limits → Connection → (cache : List ℕ) → List Call → Left
+leftOf limits connection cache [] = record { connection = connection; cache = cache }
+leftOf limits connection cache (call ∷ calls) =
+    let result = resultOf limits connection call cache in
+    leftOf limits (result .outcome .connection) (result .cache) calls
