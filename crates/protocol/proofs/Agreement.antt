@@ -4,10 +4,10 @@ use mathlib.Core.Path.{_≡_, refl, sym, subst, subst⁻¹, ap, _∙_}
 use mathlib.Core.Bool.{Bool, true, false, not, _&&_, _||_, cond, or-false}
 use mathlib.Core.List.{List, [], _∷_, _++_}
 use mathlib.Core.Option.{Option, none, some, Option·none-ne-some}
-use Prim.Native.Nat.{ℕ, suc, _<_, _≤_}
+use Prim.Native.Nat.{ℕ, suc, _≤_}
 use native.Mathlib.Omega.{arith}
-use lib.Dec.{T, eqb, eqb→eq}
-use lib.ListN.{length, take}
+use lib.Dec.{T, eqb}
+use lib.ListN.{length}
 use borrow.Author.Tests.{eqb-true, ne-eqb}
 use Rattle.event.specs.Call.{Call, inputOf}
 use Rattle.record.specs.Limits.{Limits}
@@ -15,10 +15,10 @@ use Rattle.record.specs.WellFormed.{fresh, wellFormed}
 use Rattle.table.specs.Sets.{isIn}
 use Rattle.table.specs.Table.{ignored}
 use Rattle.protocol.specs.Advance.{flipped}
-use Rattle.protocol.specs.Agreement.{Block, block, when, isHandled, handledAs, dataOf, ackOf, deliveredOf, movesData, acceptedAfter, Agrees, AllAgree, Demand3}
+use Rattle.protocol.specs.Agreement.{Block, block, when, isHandled, dataOf, acceptedAfter, Agrees, AllAgree, Demand3}
 use Rattle.protocol.specs.Block.{front, partOf}
 use Rattle.protocol.specs.Condition.{nextState}
-use Rattle.protocol.specs.History.{History, first, hear, counts, notesAfter, counted, answerBy, answerOf, keep, historyAfter, stateOf}
+use Rattle.protocol.specs.History.{History, first, hear, counts, notesAfter, counted, answerOf, keep, historyAfter, stateOf}
 use Rattle.protocol.specs.Notes.{Notes, attested}
 use Rattle.protocol.specs.Refusal.{argumentFaults, firstFault}
 use Rattle.protocol.specs.Run.{resultsOf}

@@ -1,12 +1,11 @@
 -- Every record reached from a fresh one is well formed, the number never falls, a locked connection stays locked and orders nothing.
 -- Assumes nothing.
 use mathlib.Core.Path.{_≡_, refl, sym, subst, subst⁻¹, ap, _∙_}
-use mathlib.Core.Bool.{Bool, true, false}
 use mathlib.Core.List.{List, [], _∷_, _++_}
 use mathlib.Core.Option.{Option, none}
 use Prim.Native.Nat.{ℕ, _≤_}
 use native.Mathlib.Omega.{arith}
-use lib.Dec.{T, eqb}
+use lib.Dec.{T}
 use lib.ListN.{length}
 use borrow.Author.Tests.{eq-eqb}
 use Rattle.event.specs.Call.{Call, inputOf}
@@ -16,9 +15,8 @@ use Rattle.protocol.specs.Agreement.{Block}
 use Rattle.protocol.specs.Always.{Reached, ReachedWellFormed, NeverFalls, Unmoved, AllUnmoved, LockedStays}
 use Rattle.protocol.specs.History.{History, first}
 use Rattle.protocol.specs.Run.{Left, leftOf, resultsOf}
-use Rattle.protocol.specs.Step.{Result, resultOf}
+use Rattle.protocol.specs.Step.{resultOf}
 use Rattle.protocol.specs.declared.Answer.{Answer}
-use Rattle.protocol.specs.declared.Answer.the-variants.{Handled, Ignored, Refused}
 use Rattle.record.specs.declared.Connection.{Connection}
 use Rattle.protocol.proofs.Agreement.{Waits, one-call}
 use Rattle.protocol.proofs.Blocks.{blocks}

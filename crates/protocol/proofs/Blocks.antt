@@ -2,34 +2,33 @@
 -- Assumes nothing.
 use mathlib.Core.Path.{_≡_, refl, sym, subst, subst⁻¹, ap, _∙_}
 use mathlib.Core.Bool.{Bool, true, false, not, _&&_, _||_, cond, Bool·beq}
-use mathlib.Core.List.{List, [], _∷_, _++_}
-use mathlib.Core.Option.{Option, none, some}
+use mathlib.Core.List.{List, [], _∷_}
+use mathlib.Core.Option.{some}
 use Prim.Native.Nat.{ℕ, _<_, _≤_}
 use native.Mathlib.Omega.{arith}
-use lib.Dec.{T, eqb, eqb→eq, leb, ltb}
-use lib.ListN.{length, take, drop, length-append}
+use lib.Dec.{T, eqb, eqb→eq}
+use lib.ListN.{length, take, length-append}
 use lib.Seq.{take-append-seam, take-length}
-use borrow.Author.Tests.{eqb-true, le-leb, le-ltb}
-use Rattle.event.specs.Call.{Call, carriesPayload, shortLength, inputBy, inputOf}
+use borrow.Author.Tests.{eqb-true, le-leb}
+use Rattle.event.specs.Call.{Call, carriesPayload, inputBy, inputOf}
 use Rattle.event.specs.Kind.{kindAt, kindOf, fieldsOf}
 use Rattle.record.specs.Limits.{Limits}
 use Rattle.record.specs.WellFormed.{flagFits, wellFormed}
 use Rattle.table.specs.Sets.{isIn}
-use Rattle.table.specs.Table.{cell, settled, ignored}
+use Rattle.table.specs.Table.{cell, ignored}
 use Rattle.protocol.specs.Actions.{closing, messageOf, bitOf, sourceOf, lengthOf, actionsOf}
-use Rattle.protocol.specs.Agreement.{Block, block, when, dataOf, ackOf, deliveredOf}
+use Rattle.protocol.specs.Agreement.{block, when, dataOf, ackOf, deliveredOf}
 use Rattle.protocol.specs.Block.{stored, front, partOf}
-use Rattle.protocol.specs.Condition.{conditionOf, meets, holds, nextState}
+use Rattle.protocol.specs.Condition.{conditionOf, meets, holds, nextBy, nextState}
 use Rattle.protocol.specs.Orders as order
-use Rattle.protocol.specs.Step.{Result, resultWith, handledTo, cacheAfter}
+use Rattle.protocol.specs.Step.{Result}
 use Rattle.protocol.specs.declared.Actions.{Actions}
-use Rattle.protocol.specs.declared.Answer.the-variants.{Handled}
 use Rattle.record.specs.declared.Connection.{Connection}
 use Rattle.event.specs.declared.Event.{Event}
 use Rattle.event.specs.declared.Input.{Input}
 use Rattle.protocol.proofs.Moved.{Advanced, advanced, Ordered, ordered}
-use Rattle.protocol.proofs.Stepped.{movedTo, next, Faultless}
-use Rattle.record.proofs.WellFormed.{Parts, parts}
+use Rattle.protocol.proofs.Stepped.{movedTo, Faultless, payload-length}
+use Rattle.record.proofs.WellFormed.{parts}
 use Rattle.table.proofs.Finite.{and-left, and-right, is-false, same, implied, below, below-at, either, either-at}
 
 -- The message of an event that locks, or doesn't.
@@ -50,16 +49,16 @@ handledRight s k flag b to =
 abbrev cellRight : (s k flag : ℕ) (b : Bool) (to : ℕ) → Bool
 cellRight s k flag b to = cond (not (flagFits s flag) || eqb to ignored) true (handledRight s k flag b to)
 
-all-right : T (below 10 (λ s. below 24 (λ k. below 2 (λ flag. either (λ b. cellRight s k flag b (settled flag (cell s k b)))))))
+all-right : T (below 10 (λ s. below 24 (λ k. below 2 (λ flag. either (λ b. cellRight s k flag b (nextBy s flag k b))))))
 unfolding cell
 all-right = tt
 
-right : (s k flag : ℕ) (b : Bool) → s ≤ 9 → k < 24 → flag ≤ 1 → T (cellRight s k flag b (settled flag (cell s k b)))
+right : (s k flag : ℕ) (b : Bool) → s ≤ 9 → k < 24 → flag ≤ 1 → T (cellRight s k flag b (nextBy s flag k b))
 right s k flag b hs hk hf =
-    either-at (λ b. cellRight s k flag b (settled flag (cell s k b)))
-    (below-at 2 (λ flag. either (λ b. cellRight s k flag b (settled flag (cell s k b))))
-    (below-at 24 (λ k. below 2 (λ flag. either (λ b. cellRight s k flag b (settled flag (cell s k b)))))
-    (below-at 10 (λ s. below 24 (λ k. below 2 (λ flag. either (λ b. cellRight s k flag b (settled flag (cell s k b)))))) all-right s (omega arith)) k hk) flag (omega arith)) b
+    either-at (λ b. cellRight s k flag b (nextBy s flag k b))
+    (below-at 2 (λ flag. either (λ b. cellRight s k flag b (nextBy s flag k b)))
+    (below-at 24 (λ k. below 2 (λ flag. either (λ b. cellRight s k flag b (nextBy s flag k b))))
+    (below-at 10 (λ s. below 24 (λ k. below 2 (λ flag. either (λ b. cellRight s k flag b (nextBy s flag k b))))) all-right s (omega arith)) k hk) flag (omega arith)) b
 
 -- That, as facts.
 record Handles (s k flag : ℕ) (b : Bool) (to : ℕ) : Type 0 where
@@ -94,7 +93,7 @@ pub front-of : (n : ℕ) (bytes : List ℕ) → n ≤ length bytes → front n b
 front-of n bytes h = rw (le-leb n (length bytes) h)
 
 front-stored : (payload cache : List ℕ) → front (length payload) (stored payload cache) ≡ payload
-front-stored payload cache = front-of (length payload) (stored payload cache) (simp length-append (omega arith)) ∙ take-append-seam payload (drop (length payload) cache)
+front-stored payload cache = front-of (length payload) (stored payload cache) (simp length-append (omega arith)) ∙ take-append-seam payload _
 
 front-whole : (bytes : List ℕ) → front (length bytes) bytes ≡ bytes
 front-whole bytes = front-of (length bytes) bytes (omega arith) ∙ take-length bytes
@@ -174,10 +173,6 @@ module _ (limits : Limits) (connection : Connection) (call : Call) (cache : List
   sheet : Ordered connection k input to (eqb to 9) (actionsOf connection k input to)
   sheet = ordered connection k input to
 
-  payload-length : T (carriesPayload k) → input .«payload_len» ≡ length (call .payload)
-  unfolding inputBy
-  payload-length t = rw (le-ltb (limits .payload) (length (call .payload)) (faultless .payload t))
-
   -- The actions of an event that moves blocks.
   module _ (n : ℕ) (is : k ≡ n) (moves : T (isIn (2 ∷ 18 ∷ 19 ∷ 23 ∷ []) n)) where
     open-still : eqb to 9 ≡ false
@@ -197,7 +192,7 @@ module _ (limits : Limits) (connection : Connection) (call : Call) (cache : List
     cache-is = ap (λ (m : ℕ). cond (eqb m 2) (stored (call .payload) cache) cache) is
 
     carries : T (carriesPayload n) → input .«payload_len» ≡ length (call .payload)
-    carries t = payload-length (subst⁻¹ (λ (m : ℕ). T (carriesPayload m)) is t)
+    carries t = payload-length limits call (length cache) faultless (subst⁻¹ (λ (m : ℕ). T (carriesPayload m)) is t)
 
   part-2 : k ≡ 2 → result .part ≡ call .payload
   part-2 e =

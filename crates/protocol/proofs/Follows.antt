@@ -1,6 +1,6 @@
 -- A record and its cache follow a history: the invariant of demand 3. Such a record is well formed.
 -- Assumes nothing.
-use mathlib.Core.Path.{_≡_, refl, sym, subst, subst⁻¹, ap, _∙_}
+use mathlib.Core.Path.{_≡_, refl, subst, ap, _∙_}
 use mathlib.Core.Bool.{Bool, true, false, not, _&&_, _||_, cond, or-true}
 use mathlib.Core.List.{List, [], _∷_}
 use Prim.Native.Nat.{ℕ, _<_, _≤_}
@@ -9,11 +9,10 @@ use lib.Dec.{T, eqb}
 use lib.ListN.{length, take}
 use borrow.Author.Tests.{eq-eqb, ne-eqb}
 use Rattle.record.specs.Limits.{Limits}
-use Rattle.record.specs.Tags.{Timer, H, HP, HV, DAT, RA, ACK, tagOf, runsIn}
-use Rattle.record.specs.WellFormed.{fresh, numberFits, bitsFit, flagFits, onJustIn, wellFormed}
+use Rattle.record.specs.Tags.{Timer, H, HP, HV, DAT, RA, ACK, tagOf}
+use Rattle.record.specs.WellFormed.{fresh, onJustIn, wellFormed}
 use Rattle.table.specs.Sets.{isIn}
 use Rattle.protocol.specs.History.{History, first, runs, stateOf}
-use Rattle.protocol.specs.Notes.{Notes}
 use Rattle.record.specs.declared.Connection.{Connection}
 use Rattle.protocol.proofs.Standings.{consistent, flagOf, Alone, alone}
 use Rattle.record.proofs.WellFormed.{freeIn, Parts, whole}

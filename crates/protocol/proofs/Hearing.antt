@@ -1,17 +1,17 @@
 -- What the record holds of an event's condition, and what the history hears of it.
 -- Assumes nothing.
-use mathlib.Core.Path.{_≡_, refl, sym, subst, subst⁻¹, ap, _∙_}
+use mathlib.Core.Path.{_≡_, refl, sym, subst, subst⁻¹}
 use mathlib.Core.Bool.{Bool, true, false, not, _&&_, _||_, cond, Bool·beq, and-true, and-false, or-true}
-use mathlib.Core.List.{List, [], _∷_}
+use mathlib.Core.List.{List}
 use Prim.Native.Nat.{ℕ, _<_}
 use native.Mathlib.Omega.{arith}
 use lib.Dec.{T, eqb}
 use borrow.Author.Tests.{eqb-true, ne-eqb}
 use Rattle.record.specs.Limits.{Limits}
-use Rattle.record.specs.Tags.{Timer, isRa, raMayRun, tagOf}
+use Rattle.record.specs.Tags.{isRa, raMayRun, tagOf}
 use Rattle.record.specs.WellFormed.{flagFits}
 use Rattle.protocol.specs.Condition.{Condition, live, goodHello, goodToken, expectedBit, nextSendBit, nothing, conditionOf, isLive, meets}
-use Rattle.protocol.specs.History.{History, Heard, hear, acknowledged, receives, counts, notesAfter, runs, stateOf}
+use Rattle.protocol.specs.History.{History, Heard, hear, counts, notesAfter, runs}
 use Rattle.protocol.specs.Notes.{Notes}
 use Rattle.record.specs.declared.Connection.{Connection}
 use Rattle.event.specs.declared.Input.{Input}

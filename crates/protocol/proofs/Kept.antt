@@ -1,22 +1,21 @@
 -- After a handled event the record goes on following the history.
 -- Assumes nothing.
 use mathlib.Core.Path.{_≡_, refl, sym, subst, subst⁻¹, ap, _∙_}
-use mathlib.Core.Bool.{Bool, true, false, not, _&&_, _||_, cond, Bool·beq}
-use mathlib.Core.List.{List, [], _∷_, _++_}
+use mathlib.Core.Bool.{Bool, true, false, not, _&&_, _||_, cond}
+use mathlib.Core.List.{List, [], _∷_}
 use Prim.Native.Nat.{ℕ, _<_, _≤_, _+_}
 use native.Mathlib.Omega.{arith}
 use lib.Dec.{T, eqb, eqb→eq}
-use lib.ListN.{length, take, drop, length-append, length-drop}
+use lib.ListN.{length, take, length-append, length-drop}
 use lib.Seq.{take-append-seam}
-use borrow.Author.Tests.{le-ltb}
-use Rattle.event.specs.Call.{Call, carriesPayload, inputBy, inputOf}
+use Rattle.event.specs.Call.{Call, carriesPayload, inputOf}
 use Rattle.record.specs.Limits.{Limits}
 use Rattle.record.specs.Tags.{Timer, tagOf}
 use Rattle.table.specs.Sets.{isIn}
-use Rattle.table.specs.Table.{ignored, cell, settled}
-use Rattle.protocol.specs.Advance.{raised, flipped, advance}
+use Rattle.table.specs.Table.{ignored}
+use Rattle.protocol.specs.Advance.{raised, flipped, flagAfter, advance}
 use Rattle.protocol.specs.Block.{stored}
-use Rattle.protocol.specs.Condition.{conditionOf, meets, holds, nextState}
+use Rattle.protocol.specs.Condition.{conditionOf, meets, holds, nextBy, nextState}
 use Rattle.protocol.specs.History.{History, Heard, hear, restarts, sinceAfter, runs, accepts, acknowledged, receives, counts, notesAfter, counted, stateOf}
 use Rattle.protocol.specs.Notes.{Notes}
 use Rattle.protocol.specs.Timers.{starts, ends, tagAfter}
@@ -25,10 +24,9 @@ use Rattle.event.specs.declared.Input.{Input}
 use Rattle.protocol.proofs.Follows.{Follows, stands, cond-most}
 use Rattle.protocol.proofs.Hearing.{heardAt, asks-once, hearing}
 use Rattle.protocol.proofs.Moved.{Advanced, advanced}
-use Rattle.protocol.proofs.Standings.{consistent, flagOf, only, Ruled, ruled, tagGoes, Moves, Agree, agree}
-use Rattle.protocol.proofs.Stepped.{Faultless}
+use Rattle.protocol.proofs.Standings.{ruled, tagGoes, Moves, Agree, agree}
+use Rattle.protocol.proofs.Stepped.{Faultless, payload-length}
 use Rattle.record.proofs.WellFormed.{freeIn}
-use Rattle.table.proofs.Finite.{and-left, and-right, is-false, implied}
 
 -- Laws over tests and numbers. None of them knows the table.
 
@@ -58,14 +56,6 @@ since-law was false a n s h p t = absurd t
 since-law true true true n s h p t = p
 since-law true true false n s h p t = h tt
 since-law false true a n s h p t = p
-
--- The flag: set by 2, cleared by 19 and by locking.
-flag-law : (locks accepts ends waits : Bool) (flag : ℕ) → flag ≡ cond waits 1 0
-    → cond locks 0 (cond accepts 1 (cond ends 0 flag)) ≡ cond (cond locks false (cond accepts true (cond ends false waits))) 1 0
-flag-law true a e w flag p = refl
-flag-law false true e w flag p = refl
-flag-law false false true w flag p = refl
-flag-law false false false w flag p = p
 
 -- A bit, which locking forgets.
 flip-law : (locks wasLocked flips flips′ : Bool) (x y : ℕ) → flips ≡ flips′ → wasLocked ≡ false → x ≡ cond wasLocked 0 y
@@ -99,17 +89,13 @@ short-law false payload block most h k = k
 
 kept-law : (accepts : Bool) (payload block cache : List ℕ) → take (length block) cache ≡ block
     → take (length (cond accepts payload block)) (cond accepts (stored payload cache) cache) ≡ cond accepts payload block
-kept-law true payload block cache e = take-append-seam payload (drop (length payload) cache)
+kept-law true payload block cache e = take-append-seam payload _
 kept-law false payload block cache e = e
 
 size-law : (accepts : Bool) (payload cache : List ℕ) (size most : ℕ) → length cache ≡ size → most ≤ size → (T accepts → length payload ≤ most)
     → length (cond accepts (stored payload cache) cache) ≡ size
 size-law true payload cache size most e h f = let p = f tt in simp (length-append, length-drop) (omega arith)
 size-law false payload cache size most e h f = e
-
--- A cell, by state and flag.
-cell-at : (k s s′ f f′ : ℕ) (b : Bool) → s ≡ s′ → f ≡ f′ → settled f (cell s k b) ≡ settled f′ (cell s′ k b)
-cell-at k s s′ f f′ b p q = rw (p, q)
 
 module _ (limits : Limits) (size : ℕ) (history : History) (connection : Connection) (cache : List ℕ) (R : Follows limits size history connection cache)
     (call : Call) (faultless : Faultless limits call (length cache)) where
@@ -140,7 +126,7 @@ module _ (limits : Limits) (size : ℕ) (history : History) (connection : Connec
   -- The table leads where the notes lead.
   pub leads : nextState connection k input ≡ cond (counts n k heard) (stateOf m) ignored
   unfolding nextState
-  leads = cell-at k _ _ _ _ (holds connection k input) (R .state) (R .flag) ∙ judged .next
+  leads = (λ i. nextBy (R .state i) (R .flag i) k (holds connection k input)) ∙ judged .next
 
   module _ (counting : T (counts n k heard)) where
     G : Moves n k (ruled n k heard) m
@@ -168,8 +154,7 @@ module _ (limits : Limits) (size : ℕ) (history : History) (connection : Connec
     fits t = faultless .payload (carries t)
 
     given : T (eqb k 2) → input .«payload_len» ≡ length (call .payload)
-    unfolding inputBy
-    given t = rw (le-ltb (limits .payload) (length (call .payload)) (fits t))
+    given t = payload-length limits call (length cache) faultless (carries t)
 
     tag-is : (x : Timer) → tagOf c′ x ≡ tagAfter (starts x k (stands history) (stateOf m)) (ends x k (stands history) (stateOf m)) (history .count + 1) (tagOf connection x)
     tag-is x =
@@ -211,7 +196,7 @@ module _ (limits : Limits) (size : ℕ) (history : History) (connection : Connec
     kept = record {
       notes-fit = G .consistent-after;
       state = A .state;
-      flag = A .flag ∙ flag-law (eqb (stateOf m) 9) (eqb k 2) (eqb k 19) (n .waiting) (connection .«awaiting_ack») (R .flag) ∙ ap (λ (w : Bool). cond w 1 0) (G .waits);
+      flag = A .flag ∙ ap (λ (f : ℕ). cond (eqb (stateOf m) 9) 0 (flagAfter k f)) (R .flag) ∙ G .flag;
       number = A .number ∙ ap (λ (c : ℕ). c + 1) (R .number);
       next-send = A .next-send ∙ flip-law (eqb (stateOf m) 9) (eqb (stands history) 9) (acknowledged n k heard) (eqb k 19) (connection .«next_send_bit») (history .nextSend) (G .acknowledges) (G .unlocked) (R .next-send);
       expected = A .expected ∙ flip-law (eqb (stateOf m) 9) (eqb (stands history) 9) (receives n k heard) (eqb k 18) (connection .«expected_bit») (history .expected) (G .receives-is) (G .unlocked) (R .expected);

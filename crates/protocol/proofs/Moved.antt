@@ -7,7 +7,7 @@ use lib.Dec.{eqb}
 use borrow.Author.Tests.{eqb-true}
 use Rattle.record.specs.Tags.{Timer, H, HP, HV, DAT, RA, ACK, tagOf}
 use Rattle.protocol.specs.Actions.{closing, messageOf, bitOf, sourceOf, lengthOf, lockingActions, movingActions, ordersOf, actionsOf}
-use Rattle.protocol.specs.Advance.{raised, flipped, locked, moved, tagsAfter, advance}
+use Rattle.protocol.specs.Advance.{raised, flagAfter, lengthAfter, nextSendAfter, expectedAfter, locked, moved, tagsAfter, advance}
 use Rattle.protocol.specs.Orders as order
 use Rattle.protocol.specs.declared.Actions.{Actions}
 use Rattle.record.specs.declared.Connection.{Connection}
@@ -16,10 +16,10 @@ use Rattle.event.specs.declared.Input.{Input}
 module _ (c : Connection) (code : ℕ) (input : Input) (to : ℕ) where
   pub record Advanced (locks : Bool) (r : Connection) : Type 0 where
     pub state : r .state ≡ to
-    pub flag : r .«awaiting_ack» ≡ cond locks 0 (cond (eqb code 2) 1 (cond (eqb code 19) 0 (c .«awaiting_ack»)))
-    pub next-send : r .«next_send_bit» ≡ cond locks 0 (cond (eqb code 19) (flipped (c .«next_send_bit»)) (c .«next_send_bit»))
-    pub expected : r .«expected_bit» ≡ cond locks 0 (cond (eqb code 18) (flipped (c .«expected_bit»)) (c .«expected_bit»))
-    pub length : r .«cached_len» ≡ cond locks 0 (cond (eqb code 2) (input .«payload_len») (cond (eqb code 19) 0 (c .«cached_len»)))
+    pub flag : r .«awaiting_ack» ≡ cond locks 0 (flagAfter code (c .«awaiting_ack»))
+    pub next-send : r .«next_send_bit» ≡ cond locks 0 (nextSendAfter code (c .«next_send_bit»))
+    pub expected : r .«expected_bit» ≡ cond locks 0 (expectedAfter code (c .«expected_bit»))
+    pub length : r .«cached_len» ≡ cond locks 0 (lengthAfter code (input .«payload_len») (c .«cached_len»))
     pub number : r .handled ≡ raised c
     pub tag : (timer : Timer) → tagOf r timer ≡ tagsAfter c code to timer
 

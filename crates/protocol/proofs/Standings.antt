@@ -1,7 +1,7 @@
 -- The finite part of demand 3: every standing of the notes, every event code, with its condition held or not.
 -- One test, which antt computes, compares the published table and the timers' rules with the history's.
 -- Assumes nothing.
-use mathlib.Core.Path.{_≡_, refl}
+use mathlib.Core.Path.{_≡_}
 use mathlib.Core.Bool.{Bool, true, false, not, _&&_, _||_, cond, Bool·beq}
 use mathlib.Core.List.{[], _∷_}
 use Prim.Native.Nat.{ℕ, _<_, _≤_}
@@ -9,14 +9,15 @@ use lib.Dec.{T, eqb, eqb→eq, leb, leb→le}
 use Rattle.record.specs.Tags.{Timer, H, runsIn, isRa}
 use Rattle.record.specs.WellFormed.{flagFits}
 use Rattle.table.specs.Sets.{isIn}
-use Rattle.table.specs.Table.{cell, settled, ignored}
-use Rattle.protocol.specs.Condition.{Condition, live, goodHello, goodToken, expectedBit, nextSendBit, nothing, conditionOf}
-use Rattle.protocol.specs.History.{Heard, locks, accepts, acknowledged, receives, counts, notesAfter, runs, restarts, stateOf}
+use Rattle.table.specs.Table.{cell, ignored}
+use Rattle.protocol.specs.Advance.{flagAfter}
+use Rattle.protocol.specs.Condition.{Condition, live, goodHello, goodToken, expectedBit, nextSendBit, nothing, conditionOf, nextBy}
+use Rattle.protocol.specs.History.{Heard, accepts, acknowledged, receives, counts, notesAfter, runs, restarts, stateOf}
 use Rattle.protocol.specs.Notes.{Opening, fresh, helloSent, opened, locked, Run, off, running, good, Notes, attested}
 use Rattle.protocol.specs.Timers.{starts, ends}
 use Rattle.record.proofs.EveryTimer.{timers, timers-at}
 use Rattle.record.proofs.WellFormed.{freeIn}
-use Rattle.table.proofs.Finite.{and-left, and-right, is-true, is-false, same, below, below-at, either, either-at}
+use Rattle.table.proofs.Finite.{and-left, and-right, is-true, is-false, same, implied, below, below-at, either, either-at}
 
 -- A test of every opening, of every run, and of all notes.
 abbrev openings : (Opening → Bool) → Bool
@@ -121,6 +122,7 @@ moves n k r m =
     && Bool·beq (r .acknowledged) (eqb k 19)
     && Bool·beq (r .receives) (eqb k 18)
     && Bool·beq (accepts n k) (eqb k 2)
+    && eqb (cond (eqb (stateOf m) 9) 0 (flagAfter k (flagOf n))) (flagOf m)
     && Bool·beq (cond (eqb (stateOf m) 9) false (cond (eqb k 2) true (cond (eqb k 19) false (n .waiting)))) (m .waiting)
     && (not (isIn (0 ∷ 1 ∷ []) (stateOf m)) || (isIn (0 ∷ 1 ∷ []) (stateOf n) && (not (eqb k 18) && not (eqb k 19))))
     && timers (λ x. tagGoes (runs n x) (runs m x) (freeIn x (stateOf n)) (freeIn x (stateOf m)) (starts x k (stateOf n) (stateOf m)) (ends x k (stateOf n) (stateOf m)) (restarts x k))
@@ -130,26 +132,22 @@ moves n k r m =
 -- The table leads where the notes lead, or ignores what doesn't count.
 abbrev agrees : Notes → (code : ℕ) (held : Bool) → Ruled → Bool
 agrees n k b r =
-    eqb (settled (flagOf n) (cell (stateOf n) k b)) (cond (r .counts) (stateOf (r .after)) ignored)
-    && cond (r .counts) (moves n k r (r .after)) true
+    eqb (nextBy (stateOf n) (flagOf n) k b) (cond (r .counts) (stateOf (r .after)) ignored)
+    && (not (r .counts) || moves n k r (r .after))
 
 abbrev agreesIf : Notes → (code name : ℕ) (held heard : Bool) → Bool
-agreesIf n k name b h = cond (related n (conditionOf k name) b h) (agrees n k b (ruled n k (only h))) true
+agreesIf n k name b h = not (related n (conditionOf k name) b h) || agrees n k b (ruled n k (only h))
 
 abbrev right : Notes → Bool
-right n = cond (consistent n) (fitsAlone n && below 24 (λ k. below 3 (λ name. either (λ b. either (agreesIf n k name b))))) true
+right n = not (consistent n) || (fitsAlone n && below 24 (λ k. below 3 (λ name. either (λ b. either (agreesIf n k name b)))))
 
 all-right : T (standings right)
 unfolding consistent stateOf runs counts notesAfter cell
 all-right = tt
 
 -- What the test says of consistent notes.
-chosen : (b x : Bool) → T (cond b x true) → T b → T x
-chosen true x t u = t
-chosen false x t u = absurd u
-
 right-at : (n : Notes) → T (consistent n) → T (fitsAlone n && below 24 (λ k. below 3 (λ name. either (λ b. either (agreesIf n k name b)))))
-right-at n c = chosen (consistent n) _ (standings-at right all-right n) c
+right-at n c = implied (consistent n) _ (standings-at right all-right n) c
 
 -- Of the notes alone.
 pub record Alone (n : Notes) : Type 0 where
@@ -174,6 +172,7 @@ pub record Moves (n : Notes) (k : ℕ) (r : Ruled) (m : Notes) : Type 0 where
   pub acknowledges : r .acknowledged ≡ eqb k 19
   pub receives-is : r .receives ≡ eqb k 18
   pub accepts-is : accepts n k ≡ eqb k 2
+  pub flag : cond (eqb (stateOf m) 9) 0 (flagAfter k (flagOf n)) ≡ flagOf m
   pub waits : cond (eqb (stateOf m) 9) false (cond (eqb k 2) true (cond (eqb k 19) false (n .waiting))) ≡ m .waiting
   pub early : T (not (isIn (0 ∷ 1 ∷ []) (stateOf m)) || (isIn (0 ∷ 1 ∷ []) (stateOf n) && (not (eqb k 18) && not (eqb k 19))))
   pub tags : (x : Timer) → T (tagGoes (runs n x) (runs m x) (freeIn x (stateOf n)) (freeIn x (stateOf m)) (starts x k (stateOf n) (stateOf m)) (ends x k (stateOf n) (stateOf m)) (restarts x k))
@@ -188,6 +187,7 @@ moves-by n k r m t = record {
   acknowledges = same _ _ (search (and-left, and-right) depth 16);
   receives-is = same _ _ (search (and-left, and-right) depth 16);
   accepts-is = same _ _ (search (and-left, and-right) depth 16);
+  flag = eqb→eq _ _ (search (and-left, and-right) depth 16);
   waits = same _ _ (search (and-left, and-right) depth 16);
   early = search (and-left, and-right) depth 16;
   tags = timers-at (λ x. tagGoes (runs n x) (runs m x) (freeIn x (stateOf n)) (freeIn x (stateOf m)) (starts x k (stateOf n) (stateOf m)) (ends x k (stateOf n) (stateOf m)) (restarts x k)) (search (and-left, and-right) depth 16);
@@ -197,13 +197,13 @@ moves-by n k r m t = record {
 
 -- Of any event whose condition the record holds and the history hears alike.
 pub record Agree (n : Notes) (k : ℕ) (b : Bool) (r : Ruled) : Type 0 where
-  pub next : settled (flagOf n) (cell (stateOf n) k b) ≡ cond (r .counts) (stateOf (r .after)) ignored
+  pub next : nextBy (stateOf n) (flagOf n) k b ≡ cond (r .counts) (stateOf (r .after)) ignored
   pub move : T (r .counts) → Moves n k r (r .after)
 
 agree-by : (n : Notes) (k : ℕ) (b : Bool) (r : Ruled) → T (agrees n k b r) → Agree n k b r
 agree-by n k b r t = record {
-  next = eqb→eq _ _ (and-left (eqb (settled (flagOf n) (cell (stateOf n) k b)) _) _ t);
-  move = λ c. moves-by n k r (r .after) (chosen (r .counts) _ (and-right (eqb (settled (flagOf n) (cell (stateOf n) k b)) _) _ t) c);
+  next = eqb→eq _ _ (and-left (eqb (nextBy (stateOf n) (flagOf n) k b) _) _ t);
+  move = λ c. moves-by n k r (r .after) (implied (r .counts) _ (and-right (eqb (nextBy (stateOf n) (flagOf n) k b) _) _ t) c);
 }
 
 pub agree : (n : Notes) (k name : ℕ) (b h : Bool) → T (consistent n) → k < 24 → name < 3 → T (related n (conditionOf k name) b h) → Agree n k b (ruled n k (only h))
@@ -212,4 +212,4 @@ agree n k name b h c hk hn r =
     let u = below-at 24 (λ k. below 3 (λ name. either (λ b. either (agreesIf n k name b)))) t k hk in
     let v = below-at 3 (λ name. either (λ b. either (agreesIf n k name b))) u name hn in
     let w = either-at (agreesIf n k name b) (either-at (λ b. either (agreesIf n k name b)) v b) h in
-    agree-by n k b (ruled n k (only h)) (chosen (related n (conditionOf k name) b h) _ w r)
+    agree-by n k b (ruled n k (only h)) (implied (related n (conditionOf k name) b h) _ w r)

@@ -2,22 +2,20 @@
 -- Assumes nothing.
 use mathlib.Core.Path.{_≡_, refl, subst, subst⁻¹, ap}
 use mathlib.Core.Bool.{Bool, true, false, not, _&&_, cond}
-use mathlib.Core.List.{List, [], _∷_, _++_}
+use mathlib.Core.List.{List, []}
 use Prim.Native.Nat.{ℕ, _<_, _≤_}
 use native.Mathlib.Omega.{arith}
-use lib.Dec.{T, eqb, eqb→eq, ltb}
+use lib.Dec.{T, eqb}
 use lib.ListN.{length}
-use borrow.Author.Tests.{eqb-true, ltb-false, not-false}
-use Rattle.event.specs.Call.{Call, carriesPayload, inputBy, inputOf, shortLength}
+use borrow.Author.Tests.{eqb-true, le-ltb, ltb-false, not-false}
+use Rattle.event.specs.Call.{Call, carriesPayload, inputBy, inputOf}
 use Rattle.record.specs.Limits.{Limits}
 use Rattle.record.specs.WellFormed.{wellFormed}
 use Rattle.table.specs.Table as table
-use Rattle.protocol.specs.Actions.{actionsOf}
-use Rattle.protocol.specs.Advance.{advance}
-use Rattle.protocol.specs.Block.{stored, partOf}
+use Rattle.protocol.specs.Block.{partOf}
 use Rattle.protocol.specs.Condition.{nextState}
-use Rattle.protocol.specs.Refusal.{argumentFaults, faults, firstFault, refusal}
-use Rattle.protocol.specs.Step.{unchanged, handledTo, decided, stepOf, refusalOf, cacheAfter, Result, resultWith, resultOf}
+use Rattle.protocol.specs.Refusal.{argumentFaults, faults, refusal}
+use Rattle.protocol.specs.Step.{unchanged, handledTo, decided, refusalOf, cacheAfter, Result, resultWith, resultOf}
 use Rattle.protocol.specs.declared.Answer.{Answer}
 use Rattle.protocol.specs.declared.Answer.the-variants.{Handled, Ignored, Refused}
 use Rattle.protocol.specs.declared.Outcome.{Outcome}
@@ -91,6 +89,11 @@ faultless limits call size none = record {
   payload = λ t. ltb-false (limits .payload) (length (call .payload)) (carried (carriesPayload (call .event .code)) _ (none .1 .1 .1 .0) t);
   cache = ltb-false size (limits .payload) (none .1 .1 .1 .1 .0);
 }
+
+-- The length that is then read of a payload.
+pub payload-length : (limits : Limits) (call : Call) (size : ℕ) → Faultless limits call size → T (carriesPayload (call .event .code)) → inputOf limits call size .«payload_len» ≡ length (call .payload)
+unfolding inputBy
+payload-length limits call size f t = rw (le-ltb (limits .payload) (length (call .payload)) (f .payload t))
 
 -- What a call without refusal has: no fault of its arguments, a well-formed record, and a number that can be raised if it is handled.
 pub record Unrefused (limits : Limits) (connection : Connection) (call : Call) (cache : List ℕ) : Type 0 where

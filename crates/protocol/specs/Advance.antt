@@ -20,15 +20,30 @@ flipped bit = cond (eqb bit 0) 1 0
 abbrev pub locked : (number : ℕ) → Connection
 locked number = cleared 9 number
 
--- An event that doesn't lock: 2 keeps the payload's length and sets the flag, 19 clears both and flips the next-send bit,
--- 18 flips the expected bit; the tags are given.
+-- 2 sets the flag, 19 clears it.
+abbrev pub flagAfter : (code flag : ℕ) → ℕ
+flagAfter code flag = cond (eqb code 2) 1 (cond (eqb code 19) 0 flag)
+
+-- 2 keeps the payload's length, 19 clears it.
+abbrev pub lengthAfter : (code payloadLen cachedLen : ℕ) → ℕ
+lengthAfter code payloadLen cachedLen = cond (eqb code 2) payloadLen (cond (eqb code 19) 0 cachedLen)
+
+-- 19 flips the next-send bit.
+abbrev pub nextSendAfter : (code bit : ℕ) → ℕ
+nextSendAfter code bit = cond (eqb code 19) (flipped bit) bit
+
+-- 18 flips the expected bit.
+abbrev pub expectedAfter : (code bit : ℕ) → ℕ
+expectedAfter code bit = cond (eqb code 18) (flipped bit) bit
+
+-- The record after an event that doesn't lock; the tags are given.
 abbrev pub moved : (Timer → ℕ) → (number : ℕ) → Connection → (code : ℕ) → Input → (to : ℕ) → Connection
 moved tags number connection code input to = record {
   state = to;
-  «awaiting_ack» = cond (eqb code 2) 1 (cond (eqb code 19) 0 (connection .«awaiting_ack»));
-  «next_send_bit» = cond (eqb code 19) (flipped (connection .«next_send_bit»)) (connection .«next_send_bit»);
-  «expected_bit» = cond (eqb code 18) (flipped (connection .«expected_bit»)) (connection .«expected_bit»);
-  «cached_len» = cond (eqb code 2) (input .«payload_len») (cond (eqb code 19) 0 (connection .«cached_len»));
+  «awaiting_ack» = flagAfter code (connection .«awaiting_ack»);
+  «next_send_bit» = nextSendAfter code (connection .«next_send_bit»);
+  «expected_bit» = expectedAfter code (connection .«expected_bit»);
+  «cached_len» = lengthAfter code (input .«payload_len») (connection .«cached_len»);
   handled = number;
   h = tags H;
   prover = tags HP;

@@ -51,7 +51,11 @@ meets connection input nothing = true
 unfoldable pub holds : Connection → (code : ℕ) → Input → Bool
 holds connection code input = meets connection input (conditionOf code (input .timer))
 
+-- What the published table has for a state, a flag, a code and its condition: the state that follows, or `ignored`.
+abbrev pub nextBy : (state flag code : ℕ) (held : Bool) → ℕ
+nextBy state flag code held = settled flag (cell state code held)
+
 -- The state that follows, or `ignored`.
 unfoldable pub nextState : Connection → (code : ℕ) → Input → ℕ
 nextState connection code input =
-    settled (connection .«awaiting_ack») (cell (connection .state) code (holds connection code input))
+    nextBy (connection .state) (connection .«awaiting_ack») code (holds connection code input)

@@ -10,7 +10,7 @@ use Rattle.record.specs.Tags.{Timer, H, HP, HV, DAT, RA, ACK}
 use Rattle.table.specs.Sets.{isIn}
 use Rattle.protocol.specs.Advance.{flipped}
 use Rattle.protocol.specs.Condition.{named}
-use Rattle.protocol.specs.Notes.{Opening, fresh, helloSent, opened, locked, Run, off, running, good, Notes, isFresh, isHelloSent, isOpen, isRunning, isGood, isMissing, attested}
+use Rattle.protocol.specs.Notes.{Opening, fresh, helloSent, opened, locked, off, running, good, Notes, isFresh, isHelloSent, isOpen, isRunning, isGood, isMissing, attested}
 use Rattle.protocol.specs.Refusal.{argumentFaults, firstFault}
 use Rattle.protocol.specs.declared.Answer.{Answer}
 use Rattle.protocol.specs.declared.Answer.the-variants.{Handled, Ignored, Refused}

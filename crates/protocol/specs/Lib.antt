@@ -7,6 +7,7 @@ pub mod Actions
 pub mod Block
 pub mod Step
 pub mod Run
+pub mod Promised
 pub mod Cases
 pub mod Notes
 pub mod History

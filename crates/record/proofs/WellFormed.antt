@@ -2,7 +2,6 @@
 -- Assumes nothing.
 use mathlib.Core.Path.{_≡_}
 use mathlib.Core.Bool.{Bool, true, false, not, _&&_, _||_, cond}
-use mathlib.Core.List.{[], _∷_}
 use Prim.Native.Nat.{ℕ, _≤_}
 use native.Mathlib.Omega.{arith}
 use lib.Dec.{T, eqb, leb, leb→le}
@@ -11,7 +10,6 @@ use Rattle.record.specs.Limits.{Limits}
 use Rattle.record.specs.Tags.{Timer, H, HP, HV, DAT, RA, ACK, tagOf, runsIn, raMayRun, isRa}
 use Rattle.record.specs.WellFormed.{fieldsFit, tagsAtMost, numberFits, bitsFit, flagFits, fitsState, onJustIn, wellFormed}
 use Rattle.record.specs.declared.Connection.{Connection}
-use Rattle.table.specs.Sets.{isIn}
 use Rattle.record.proofs.EveryTimer.{timers, timers-at}
 use Rattle.table.proofs.Finite.{and-left, and-right, is-true, below-at}
 
