@@ -14,7 +14,8 @@ use Rattle.record.specs.Limits.{Limits}
 use Rattle.table.specs.Sets.{isIn}
 use Rattle.protocol.specs.Step.{handledTo}
 use Rattle.table.specs.Table.{cell, settled}
-use Rattle.record.specs.Tags.{Timer, H, HP, HV, DAT, RA, ACK, tagOf, runsIn}
+use Rattle.record.specs.Tags.{tagOf, runsIn}
+use Rattle.record.specs.Timer.{Timer, H, HP, HV, DAT, RA, ACK}
 use Rattle.protocol.specs.Timers.{starts, ends, reports, tagAfter, timerOrder}
 use Rattle.record.specs.WellFormed.{wellFormed}
 use Rattle.protocol.specs.declared.Answer.the-variants.{Handled}

@@ -7,7 +7,8 @@ use lib.Dec.{eqb}
 use lib.ListN.{getD}
 use Rattle.protocol.specs.Orders as order
 use Rattle.table.specs.Sets.{isIn}
-use Rattle.record.specs.Tags.{Timer, H, HP, HV, DAT, RA, ACK, tagOf}
+use Rattle.record.specs.Tags.{tagOf}
+use Rattle.record.specs.Timer.{Timer, H, HP, HV, DAT, RA, ACK}
 use Rattle.protocol.specs.Timers.{timerOrder}
 use Rattle.protocol.specs.Advance.{locked, moved}
 use Rattle.protocol.specs.Actions.{lockingActions, movingActions, ordersOf}

@@ -5,7 +5,7 @@ ghost use mathlib.Core.List.{_∷_, [], _++_};
 ghost use types.Run.{OneOf};
 ghost use Rattle.connection.specs.ByEvent.{moving, byEvent};
 ghost use Rattle.record.specs.Limits.{limits};
-ghost use Rattle.protocol.specs.Refusal.{firstFault, argumentFaults};
+ghost use Rattle.protocol.specs.Faults.{firstFault, argumentFaults};
 ghost use Rattle.protocol.specs.Step.{unchanged, decided};
 ghost use Rattle.record.specs.WellFormed.{wellFormed};
 use crate::condition::holds;

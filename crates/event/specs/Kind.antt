@@ -1,9 +1,11 @@
 -- Document 01, "What the machine covers" and "Shortcuts that look right": the kind of an event, which its code fixes.
 -- A field is read only from the kind that carries it. Payload and suite lists are slices: see `Call`.
 use Prim.Native.Nat.{ℕ}
-use mathlib.Core.Bool.{Bool, false}
+use mathlib.Core.Bool.{Bool, false, cond}
 use mathlib.Core.List.{List, [], _∷_}
+use lib.Dec.{eqb}
 use lib.ListN.{getD}
+use Rattle.record.specs.Timer.{Timer, H, HP, HV}
 use Rattle.token.specs.SecondsLeft.{secondsLeft}
 use Rattle.token.specs.Good.{good, goodSeconds}
 use Rattle.event.specs.declared.Event.{Event}
@@ -53,3 +55,7 @@ fieldsOf (HandshakeTimeout tag timer) = fields tag timer 0 false 0
 fieldsOf (Bit bit) = fields 0 0 bit false 0
 fieldsOf (Token verdict expiry now) =
     fields 0 0 0 (good verdict (secondsLeft expiry now)) (goodSeconds verdict (secondsLeft expiry now))
+
+-- The handshake timer that event 20 names: 0 H, 1 HP, 2 HV.
+abbrev pub named : ℕ → Timer
+named name = cond (eqb name 0) H (cond (eqb name 1) HP HV)

@@ -4,7 +4,7 @@ use mathlib.Core.Path.{_≡_, refl, sym, subst, subst⁻¹, ap, _∙_}
 use mathlib.Core.Bool.{Bool, true, false, not, _&&_, _||_, cond, or-false}
 use mathlib.Core.List.{List, [], _∷_, _++_}
 use mathlib.Core.Option.{Option, none, some, Option·none-ne-some}
-use Prim.Native.Nat.{ℕ, suc, _≤_}
+use Prim.Native.Nat.{ℕ, suc, _≤_, _-_}
 use native.Mathlib.Omega.{arith}
 use lib.Dec.{T, eqb}
 use lib.ListN.{length}
@@ -14,13 +14,12 @@ use Rattle.record.specs.Limits.{Limits}
 use Rattle.record.specs.WellFormed.{fresh, wellFormed}
 use Rattle.table.specs.Sets.{isIn}
 use Rattle.table.specs.Table.{ignored}
-use Rattle.protocol.specs.Advance.{flipped}
 use Rattle.protocol.specs.Agreement.{Block, block, when, isHandled, dataOf, acceptedAfter, Agrees, AllAgree, Demand3}
 use Rattle.protocol.specs.Block.{front, partOf}
 use Rattle.protocol.specs.Condition.{nextState}
 use Rattle.protocol.specs.History.{History, first, hear, counts, notesAfter, counted, answerOf, keep, historyAfter, stateOf}
 use Rattle.protocol.specs.Notes.{Notes, attested}
-use Rattle.protocol.specs.Refusal.{argumentFaults, firstFault}
+use Rattle.protocol.specs.Faults.{argumentFaults, firstFault}
 use Rattle.protocol.specs.Run.{resultsOf}
 use Rattle.protocol.specs.Step.{unchanged, handledTo, Result, resultOf}
 use Rattle.protocol.specs.declared.Answer.{Answer}
@@ -67,7 +66,7 @@ module _ (limits : Limits) (size : ℕ) (history : History) (accepted : Option B
           ack-ordered = nothing-handled (isHandled answer) (18 ∷ []) _ e;
           delivered = nothing-handled (isHandled answer) (18 ∷ []) _ e;
           guarded = λ t. absurd t;
-          repeated = λ sent s. absurd (Option·none-ne-some sent s);
+          last-accepted = λ sent s. absurd (Option·none-ne-some sent s);
         };
         follows = R;
         waits = λ t. last ∙ W t;
@@ -192,7 +191,7 @@ module _ (limits : Limits) (history : History) (accepted : Option Block) (connec
         λ i. some (block ((B .data-bit s ∙ bit-then s) i) (p i))
     waits-by false e t =
         let w = waiting-on (eqb (stateOf m) 9) (eqb k 2) (eqb k 19) (n .waiting) (subst⁻¹ T (G .waits) t) e in
-        let p = ap (λ (a : Bool). cond a (flipped (history .nextSend)) (history .nextSend)) (G .acknowledges ∙ w .0) in
+        let p = ap (λ (a : Bool). cond a (1 - history .nextSend) (history .nextSend)) (G .acknowledges ∙ w .0) in
         let q = ap (λ (a : Bool). cond a (call .payload) (history .block)) (G .accepts-is ∙ e) in
         W (w .1) ∙ (λ i. some (block (sym p i) (sym q i)))
 
@@ -207,7 +206,7 @@ module _ (limits : Limits) (history : History) (accepted : Option Block) (connec
         ack-ordered = B .ack-ordered;
         delivered = B .delivered;
         guarded = λ t. let g = implied (isIn (2 ∷ 18 ∷ 23 ∷ []) k) (attested n && attested m) (G .guarded) (data-or-delivery (eqb k 2) (eqb k 23) (eqb k 18) (subst T (λ i. B .is-data i || B .delivers i) t)) in (and-left (attested n) (attested m) g, and-right (attested n) (attested m) g);
-        repeated = λ sent e.
+        last-accepted = λ sent e.
             let s = when-some (isIn (2 ∷ 23 ∷ []) k) _ sent (sym data-then ∙ e) in
             waits-by (eqb k 2) refl (waits-then s) ∙ sym (data-then ∙ when-true (isIn (2 ∷ 23 ∷ []) k) _ s) ∙ e;
       };

@@ -9,7 +9,8 @@ use lib.Dec.{eqb}
 use borrow.Author.Tests.{ne-eqb, eqb-true}
 use Rattle.protocol.specs.Condition.{nextState}
 use Rattle.record.specs.Limits.{Limits}
-use Rattle.protocol.specs.Refusal.{argumentFaults, firstFault, refusal}
+use Rattle.protocol.specs.Faults.{argumentFaults, firstFault}
+use Rattle.protocol.specs.Refusal.{refusal}
 use Rattle.protocol.specs.Step.{refusalNumber, unchanged, handledTo, decided}
 use Rattle.record.specs.WellFormed.{wellFormed}
 use Rattle.protocol.specs.declared.Answer.the-variants.{Ignored, Refused}

@@ -3,14 +3,15 @@
 use mathlib.Core.Path.{_≡_, refl, sym, subst, subst⁻¹, ap, _∙_}
 use mathlib.Core.Bool.{Bool, true, false, not, _&&_, _||_, cond}
 use mathlib.Core.List.{List, [], _∷_}
-use Prim.Native.Nat.{ℕ, _<_, _≤_, _+_}
+use Prim.Native.Nat.{ℕ, _<_, _≤_, _+_, _-_}
 use native.Mathlib.Omega.{arith}
 use lib.Dec.{T, eqb, eqb→eq}
 use lib.ListN.{length, take, length-append, length-drop}
 use lib.Seq.{take-append-seam}
 use Rattle.event.specs.Call.{Call, carriesPayload, inputOf}
 use Rattle.record.specs.Limits.{Limits}
-use Rattle.record.specs.Tags.{Timer, tagOf}
+use Rattle.record.specs.Tags.{tagOf}
+use Rattle.record.specs.Timer.{Timer}
 use Rattle.table.specs.Sets.{isIn}
 use Rattle.table.specs.Table.{ignored}
 use Rattle.protocol.specs.Advance.{raised, flipped, flagAfter, advance}
@@ -27,6 +28,7 @@ use Rattle.protocol.proofs.Moved.{Advanced, advanced}
 use Rattle.protocol.proofs.Standings.{ruled, tagGoes, Moves, Agree, agree}
 use Rattle.protocol.proofs.Stepped.{Faultless, payload-length}
 use Rattle.record.proofs.WellFormed.{freeIn}
+use Rattle.table.proofs.Finite.{below-at}
 
 -- Laws over tests and numbers. None of them knows the table.
 
@@ -57,17 +59,21 @@ since-law true true true n s h p t = p
 since-law true true false n s h p t = h tt
 since-law false true a n s h p t = p
 
+-- The other bit, as the step and as the history have it.
+other-bit : (bit : ℕ) → bit ≤ 1 → flipped bit ≡ 1 - bit
+other-bit bit h = eqb→eq _ _ (below-at 2 (λ b. eqb (flipped b) (1 - b)) tt bit (omega arith))
+
 -- A bit, which locking forgets.
-flip-law : (locks wasLocked flips flips′ : Bool) (x y : ℕ) → flips ≡ flips′ → wasLocked ≡ false → x ≡ cond wasLocked 0 y
-    → cond locks 0 (cond flips′ (flipped x) x) ≡ cond locks 0 (cond flips (flipped y) y)
-flip-law l w f f′ x y e u p = rw (e, p, u)
+flip-law : (locks wasLocked flips flips′ : Bool) (x y : ℕ) → flips ≡ flips′ → wasLocked ≡ false → y ≤ 1 → x ≡ cond wasLocked 0 y
+    → cond locks 0 (cond flips′ (flipped x) x) ≡ cond locks 0 (cond flips (1 - y) y)
+flip-law l w f f′ x y e u h p = rw (e, p, u, other-bit y h)
 
-flip-most : (flips : Bool) (bit : ℕ) → bit ≤ 1 → cond flips (flipped bit) bit ≤ 1
-flip-most f bit h = cond-most f (flipped bit) bit 1 (cond-most (eqb bit 0) 1 0 1 (omega arith) (omega arith)) h
+flip-most : (flips : Bool) (bit : ℕ) → bit ≤ 1 → cond flips (1 - bit) bit ≤ 1
+flip-most f bit h = cond-most f (1 - bit) bit 1 (omega arith) h
 
--- Before the opening no bit is flipped.
+-- Before the opening no bit changes.
 early-law : (is was received acked : Bool) (x y : ℕ) → (T was → (x ≡ 0) × (y ≡ 0)) → T (not is || (was && (not received && not acked)))
-    → T is → (cond acked (flipped x) x ≡ 0) × (cond received (flipped y) y ≡ 0)
+    → T is → (cond acked (1 - x) x ≡ 0) × (cond received (1 - y) y ≡ 0)
 early-law true true false false x y h g t = h tt
 early-law true true true acked x y h g t = absurd g
 early-law true true false true x y h g t = absurd g
@@ -178,11 +184,11 @@ module _ (limits : Limits) (size : ℕ) (history : History) (connection : Connec
         let h = tag-most (starts x k (connection .state) (stateOf m)) (ends x k (connection .state) (stateOf m)) (raised connection) (tagOf connection x) (omega arith) in
         omega arith
 
-    early : T (isIn (0 ∷ 1 ∷ []) (stateOf m)) → (cond (acknowledged n k heard) (flipped (history .nextSend)) (history .nextSend) ≡ 0) × (cond (receives n k heard) (flipped (history .expected)) (history .expected) ≡ 0)
+    early : T (isIn (0 ∷ 1 ∷ []) (stateOf m)) → (cond (acknowledged n k heard) (1 - history .nextSend) (history .nextSend) ≡ 0) × (cond (receives n k heard) (1 - history .expected) (history .expected) ≡ 0)
     early t =
         let b = early-law (isIn (0 ∷ 1 ∷ []) (stateOf m)) (isIn (0 ∷ 1 ∷ []) (stands history)) (eqb k 18) (eqb k 19) (history .nextSend) (history .expected) (R .early) (G .early) t in (
-          ap (λ (a : Bool). cond a (flipped (history .nextSend)) (history .nextSend)) (G .acknowledges) ∙ b .0,
-          ap (λ (a : Bool). cond a (flipped (history .expected)) (history .expected)) (G .receives-is) ∙ b .1,
+          ap (λ (a : Bool). cond a (1 - history .nextSend) (history .nextSend)) (G .acknowledges) ∙ b .0,
+          ap (λ (a : Bool). cond a (1 - history .expected) (history .expected)) (G .receives-is) ∙ b .1,
         )
 
     length-after : c′ .«cached_len» ≡ cond (m .waiting) (length block′) 0
@@ -198,8 +204,8 @@ module _ (limits : Limits) (size : ℕ) (history : History) (connection : Connec
       state = A .state;
       flag = A .flag ∙ ap (λ (f : ℕ). cond (eqb (stateOf m) 9) 0 (flagAfter k f)) (R .flag) ∙ G .flag;
       number = A .number ∙ ap (λ (c : ℕ). c + 1) (R .number);
-      next-send = A .next-send ∙ flip-law (eqb (stateOf m) 9) (eqb (stands history) 9) (acknowledged n k heard) (eqb k 19) (connection .«next_send_bit») (history .nextSend) (G .acknowledges) (G .unlocked) (R .next-send);
-      expected = A .expected ∙ flip-law (eqb (stateOf m) 9) (eqb (stands history) 9) (receives n k heard) (eqb k 18) (connection .«expected_bit») (history .expected) (G .receives-is) (G .unlocked) (R .expected);
+      next-send = A .next-send ∙ flip-law (eqb (stateOf m) 9) (eqb (stands history) 9) (acknowledged n k heard) (eqb k 19) (connection .«next_send_bit») (history .nextSend) (G .acknowledges) (G .unlocked) (R .next-send-bit) (R .next-send);
+      expected = A .expected ∙ flip-law (eqb (stateOf m) 9) (eqb (stands history) 9) (receives n k heard) (eqb k 18) (connection .«expected_bit») (history .expected) (G .receives-is) (G .unlocked) (R .expected-bit) (R .expected);
       next-send-bit = flip-most (acknowledged n k heard) (history .nextSend) (R .next-send-bit);
       expected-bit = flip-most (receives n k heard) (history .expected) (R .expected-bit);
       early = early;

@@ -5,7 +5,8 @@ use mathlib.Core.Bool.{Bool, true, false, cond}
 use Prim.Native.Nat.{ℕ}
 use lib.Dec.{eqb}
 use borrow.Author.Tests.{eqb-true}
-use Rattle.record.specs.Tags.{Timer, H, HP, HV, DAT, RA, ACK, tagOf}
+use Rattle.record.specs.Tags.{tagOf}
+use Rattle.record.specs.Timer.{Timer, H, HP, HV, DAT, RA, ACK}
 use Rattle.protocol.specs.Actions.{closing, messageOf, bitOf, sourceOf, lengthOf, lockingActions, movingActions, ordersOf, actionsOf}
 use Rattle.protocol.specs.Advance.{raised, flagAfter, lengthAfter, nextSendAfter, expectedAfter, locked, moved, tagsAfter, advance}
 use Rattle.protocol.specs.Orders as order

@@ -6,14 +6,15 @@ use mathlib.Core.Bool.{Bool, true, false, not, _&&_, _||_, cond, Bool·beq}
 use mathlib.Core.List.{[], _∷_}
 use Prim.Native.Nat.{ℕ, _<_, _≤_}
 use lib.Dec.{T, eqb, eqb→eq, leb, leb→le}
-use Rattle.record.specs.Tags.{Timer, H, runsIn, isRa}
+use Rattle.record.specs.Tags.{runsIn, isRa}
+use Rattle.record.specs.Timer.{Timer, H}
 use Rattle.record.specs.WellFormed.{flagFits}
 use Rattle.table.specs.Sets.{isIn}
 use Rattle.table.specs.Table.{cell, ignored}
 use Rattle.protocol.specs.Advance.{flagAfter}
 use Rattle.protocol.specs.Condition.{Condition, live, goodHello, goodToken, expectedBit, nextSendBit, nothing, conditionOf, nextBy}
 use Rattle.protocol.specs.History.{Heard, accepts, acknowledged, receives, counts, notesAfter, runs, restarts, stateOf}
-use Rattle.protocol.specs.Notes.{Opening, fresh, helloSent, opened, locked, Run, off, running, good, Notes, attested}
+use Rattle.protocol.specs.Notes.{Opening, fresh, helloSent, opened, locked, DriverRun, off, running, good, Notes, attested}
 use Rattle.protocol.specs.Timers.{starts, ends}
 use Rattle.record.proofs.EveryTimer.{timers, timers-at}
 use Rattle.record.proofs.WellFormed.{freeIn}
@@ -29,15 +30,15 @@ openings-at p t helloSent = search (and-left, and-right) depth 8
 openings-at p t opened = search (and-left, and-right) depth 8
 openings-at p t locked = search (and-left, and-right) depth 8
 
-abbrev eachRun : (Run → Bool) → Bool
+abbrev eachRun : (DriverRun → Bool) → Bool
 eachRun p = p off && (p running && p good)
 
-each-run-at : (p : Run → Bool) → T (eachRun p) → (r : Run) → T (p r)
+each-run-at : (p : DriverRun → Bool) → T (eachRun p) → (r : DriverRun) → T (p r)
 each-run-at p t off = search and-left
 each-run-at p t running = search (and-left, and-right) depth 8
 each-run-at p t good = search (and-left, and-right) depth 8
 
-abbrev standing : Opening → Bool → Run → Run → Bool → Notes
+abbrev standing : Opening → Bool → DriverRun → DriverRun → Bool → Notes
 standing o c p v w = record { opening = o; current = c; prover = p; verifier = v; waiting = w }
 
 abbrev standings : (Notes → Bool) → Bool
@@ -54,7 +55,7 @@ standings-at p t n =
 
 -- Which notes stand together: nothing before the opening; then the prover has started, and so has the verifier just while
 -- the token is current; nothing waits once locked.
-abbrev isOff : Run → Bool
+abbrev isOff : DriverRun → Bool
 isOff off = true
 isOff running = false
 isOff good = false

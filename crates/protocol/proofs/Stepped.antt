@@ -14,7 +14,8 @@ use Rattle.record.specs.WellFormed.{wellFormed}
 use Rattle.table.specs.Table as table
 use Rattle.protocol.specs.Block.{partOf}
 use Rattle.protocol.specs.Condition.{nextState}
-use Rattle.protocol.specs.Refusal.{argumentFaults, faults, refusal}
+use Rattle.protocol.specs.Faults.{argumentFaults}
+use Rattle.protocol.specs.Refusal.{faults, refusal}
 use Rattle.protocol.specs.Step.{unchanged, handledTo, decided, refusalOf, cacheAfter, Result, resultWith, resultOf}
 use Rattle.protocol.specs.declared.Answer.{Answer}
 use Rattle.protocol.specs.declared.Answer.the-variants.{Handled, Ignored, Refused}

@@ -6,7 +6,8 @@ use lib.Dec.{eqb}
 use Rattle.protocol.specs.Orders as order
 use Rattle.table.specs.Sets.{isIn}
 use Rattle.event.specs.Call.{carriesPayload}
-use Rattle.record.specs.Tags.{Timer, H, HP, HV, DAT, RA, ACK, tagOf}
+use Rattle.record.specs.Tags.{tagOf}
+use Rattle.record.specs.Timer.{Timer, H, HP, HV, DAT, RA, ACK}
 use Rattle.protocol.specs.Timers.{starts, ends, reports, startsProver, startsVerifier, timerOrder}
 use Rattle.protocol.specs.declared.Actions.{Actions}
 use Rattle.record.specs.declared.Connection.{Connection}

@@ -2,7 +2,8 @@
 use Prim.Native.Nat.{ℕ, _+_}
 use mathlib.Core.Bool.{cond}
 use lib.Dec.{eqb}
-use Rattle.record.specs.Tags.{Timer, H, HP, HV, DAT, RA, ACK, tagOf}
+use Rattle.record.specs.Tags.{tagOf}
+use Rattle.record.specs.Timer.{Timer, H, HP, HV, DAT, RA, ACK}
 use Rattle.protocol.specs.Timers.{starts, ends, tagAfter}
 use Rattle.record.specs.WellFormed.{cleared}
 use Rattle.record.specs.declared.Connection.{Connection}

@@ -58,7 +58,7 @@ deliveredOf result = when (result .outcome .actions .deliver) (result .part)
 abbrev pub movesData : Result → Bool
 movesData result = eqb (result .outcome .actions .message) order.DATA || result .outcome .actions .deliver
 
--- The block last accepted, of the one before this call: a handled event 2 accepts its payload, with the bit that it is sent with.
+-- The block last accepted at or before a call, given the one before it: a handled event 2 accepts its payload, with the bit of its DATA.
 abbrev pub acceptedAfter : Option Block → Call → Result → Option Block
 acceptedAfter accepted call result =
     cond (handledAs (2 ∷ []) (result .outcome .answer) call) (some (block (result .outcome .actions .bit) (call .payload))) accepted
@@ -77,10 +77,10 @@ pub record Agrees (answer : Answer) (before after : History) (accepted : Option 
   pub ack-ordered : ackOf result ≡ when (handledAs (18 ∷ []) answer call) (call .event .bit)
   -- Just a handled 18 delivers, with its payload as the part.
   pub delivered : deliveredOf result ≡ when (handledAs (18 ∷ []) answer call) (call .payload)
-  -- Data moves only while the token is current and both runs are good.
+  -- Data moves only while the token is current and both runs are good, before the call and after it.
   pub guarded : T (movesData result) → T (attested (before .notes)) × T (attested (after .notes))
   -- Every DATA carries the bytes and the bit of the block last accepted.
-  pub repeated : (sent : Block) → dataOf result ≡ some sent → accepted ≡ some sent
+  pub last-accepted : (sent : Block) → dataOf result ≡ some sent → accepted ≡ some sent
 
 -- Every call of a list agrees, with its result in the list of results; the history and the block last accepted are carried along.
 unfoldable pub AllAgree : Limits → (cacheLength : ℕ) → History → (accepted : Option Block) → List Call → List Result → Type 0
@@ -93,6 +93,7 @@ AllAgree limits cacheLength history accepted (call ∷ calls) (result ∷ result
     let latest = acceptedAfter accepted call result in
     Agrees answer history after latest call result × AllAgree limits cacheLength after latest calls results
 
--- Demand 3: for any cache and any list of calls from a fresh record, each call given the record and the cache that the last one left.
+-- Demand 3: for any cache and any list of calls from a fresh record, ignored and refused ones included, each call given the record and the
+-- cache that the last one left.
 abbrev pub Demand3 : Limits → Type 0
 Demand3 limits = (cache : List ℕ) (calls : List Call) → AllAgree limits (length cache) first none calls (resultsOf limits fresh cache calls)

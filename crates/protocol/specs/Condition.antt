@@ -1,11 +1,13 @@
 -- Document 01, "The record and its tags" and "The published table": the condition of each event, and the state that follows.
 use Prim.Native.Nat.{ℕ}
-use mathlib.Core.Bool.{Bool, true, not, _&&_, cond}
+use mathlib.Core.Bool.{Bool, true, not, _&&_}
 use mathlib.Core.List.{List, [], _∷_}
 use lib.Dec.{eqb}
 use lib.ListN.{getD}
+use Rattle.event.specs.Kind.{named}
 use Rattle.table.specs.Table.{cell, settled}
-use Rattle.record.specs.Tags.{Timer, H, HP, HV, DAT, RA, ACK, tagOf}
+use Rattle.record.specs.Tags.{tagOf}
+use Rattle.record.specs.Timer.{Timer, HP, HV, DAT, RA, ACK}
 use Rattle.record.specs.declared.Connection.{Connection}
 use Rattle.event.specs.declared.Input.{Input}
 
@@ -13,10 +15,6 @@ use Rattle.event.specs.declared.Input.{Input}
 pub data Condition : Type 0 where
   live : Timer → Condition
   goodHello goodToken expectedBit nextSendBit nothing : Condition
-
--- The handshake timer of a name.
-abbrev pub named : ℕ → Timer
-named name = cond (eqb name 0) H (cond (eqb name 1) HP HV)
 
 -- The conditions of codes 0 to 23.
 abbrev pub conditions : (name : ℕ) → List Condition

@@ -1,17 +1,17 @@
 -- Document 01, "The five notes": the history of a connection, kept from the calls' arguments and the cache's length alone.
--- It reads no record and no table; only `stateOf`, at the end, names states.
-use Prim.Native.Nat.{ℕ, _+_}
+-- It reads no record, no state and no table; only `stateOf` and its parts, at the end, name states. With the step it shares what the
+-- arguments mean: `inputOf`, `named`, the faults of the arguments.
+use Prim.Native.Nat.{ℕ, _+_, _-_}
 use mathlib.Core.Bool.{Bool, true, false, not, _&&_, _||_, cond}
 use mathlib.Core.List.{List, [], _∷_}
 use lib.Dec.{eqb}
 use Rattle.event.specs.Call.{Call, inputOf}
+use Rattle.event.specs.Kind.{named}
 use Rattle.record.specs.Limits.{Limits}
-use Rattle.record.specs.Tags.{Timer, H, HP, HV, DAT, RA, ACK}
+use Rattle.record.specs.Timer.{Timer, H, HP, HV, DAT, RA, ACK}
 use Rattle.table.specs.Sets.{isIn}
-use Rattle.protocol.specs.Advance.{flipped}
-use Rattle.protocol.specs.Condition.{named}
 use Rattle.protocol.specs.Notes.{Opening, fresh, helloSent, opened, locked, off, running, good, Notes, isFresh, isHelloSent, isOpen, isRunning, isGood, isMissing, attested}
-use Rattle.protocol.specs.Refusal.{argumentFaults, firstFault}
+use Rattle.protocol.specs.Faults.{argumentFaults, firstFault}
 use Rattle.protocol.specs.declared.Answer.{Answer}
 use Rattle.protocol.specs.declared.Answer.the-variants.{Handled, Ignored, Refused}
 use Rattle.event.specs.declared.Input.{Input}
@@ -45,10 +45,10 @@ pub record Heard : Type 0 where
   pub live : Timer → Bool
   -- The handshake timer that event 20 names.
   pub named : Timer
-  -- A good token and both suites; a good token.
+  -- Whether it has a good token and both suites; whether it has a good token.
   pub goodHello : Bool
   pub goodToken : Bool
-  -- Its bit is the expected one; it is the next-send bit.
+  -- Whether its bit is the expected bit; whether it is the next-send bit.
   pub expectedBit : Bool
   pub nextSendBit : Bool
 
@@ -71,7 +71,7 @@ locks notes code heard =
     || eqb code 8 && isOpen (notes .opening) && heard .live HP
     || eqb code 13 && isMissing notes && not (heard .goodToken)
 
--- Token: missing by live 21.
+-- Token: missing by live 21. From here on every rule needs the connection open.
 abbrev pub expires : Notes → (code : ℕ) → Heard → Bool
 expires notes code heard = eqb code 21 && isOpen (notes .opening) && heard .live DAT
 
@@ -109,16 +109,16 @@ acknowledged notes code heard = eqb code 19 && isOpen (notes .opening) && notes 
 abbrev pub receives : Notes → (code : ℕ) → Heard → Bool
 receives notes code heard = eqb code 18 && attested notes && heard .expectedBit
 
--- Counted without moving a note of `Notes`: live 6, 9 and 23, 15 while the verifier runs, 16 while the prover runs.
-abbrev pub passes : Notes → (code : ℕ) → Heard → Bool
-passes notes code heard =
+-- Besides the events that these rules take, live 6, 9 and 23 count, 15 while the verifier runs, 16 while the prover runs.
+abbrev pub countsBesides : Notes → (code : ℕ) → Heard → Bool
+countsBesides notes code heard =
     eqb code 6 && isOpen (notes .opening) && heard .live HV
     || eqb code 9 && isOpen (notes .opening) && heard .live HP
     || eqb code 23 && isOpen (notes .opening) && heard .live ACK
     || eqb code 15 && isOpen (notes .opening) && isRunning (notes .verifier)
     || eqb code 16 && isOpen (notes .opening) && isRunning (notes .prover)
 
--- An event counts if a rule takes it.
+-- An event counts if a rule above takes it.
 unfoldable pub counts : Notes → (code : ℕ) → Heard → Bool
 counts notes code heard =
     greets notes code
@@ -133,10 +133,10 @@ counts notes code heard =
     || accepts notes code
     || acknowledged notes code heard
     || receives notes code heard
-    || passes notes code heard
+    || countsBesides notes code heard
 
--- The notes after an event that counts. Opening makes the token current and both drivers run; the token's return makes the verifier run,
--- which is off while it is missing; waiting lapses on locking.
+-- The notes after an event that counts. From the opening the token is current and both drivers run; from the token's return the verifier
+-- runs, and while the token is missing it is off; waiting lapses on locking.
 unfoldable pub notesAfter : Notes → (code : ℕ) → Heard → Notes
 notesAfter notes code heard = record {
   opening =
@@ -156,7 +156,7 @@ notesAfter notes code heard = record {
 }
 
 -- What runs: H while greeted or the token is missing; HP and HV with their drivers; DAT while the token is current;
--- RA while the verifier is good; ACK while open, current, both good and waiting.
+-- RA from live 4 while the verifier is good; ACK while open, current, both good and waiting.
 unfoldable pub runs : Notes → Timer → Bool
 runs notes H = isHelloSent (notes .opening) || isMissing notes
 runs notes HP = isOpen (notes .opening) && isRunning (notes .prover)
@@ -178,7 +178,7 @@ restarts ACK code = eqb code 23
 abbrev pub sinceAfter : (was is again : Bool) (count since : ℕ) → ℕ
 sinceAfter was is again count since = cond (is && (not was || again)) count since
 
--- Live: the driver or timer runs, and the tag is the count at its latest start.
+-- What the history hears of a call. Live: the driver or timer runs, and the tag is the count at its latest start.
 abbrev pub hear : History → Input → Heard
 hear history input = record {
   live = λ timer. runs (history .notes) timer && eqb (input .tag) (history .since timer);
@@ -189,7 +189,7 @@ hear history input = record {
   nextSendBit = eqb (input .bit) (history .nextSend);
 }
 
--- The history after an event that counts: 19 flips the next-send bit, 18 the expected one, 2 brings the block's bytes.
+-- The history after an event that counts: 19 gives the other next-send bit, 18 the other expected bit, 2 the block's bytes.
 unfoldable pub counted : History → (code : ℕ) → Input → (payload : List ℕ) → History
 counted history code input payload =
     let heard = hear history input in
@@ -199,8 +199,8 @@ counted history code input payload =
       notes = after;
       count = count;
       since = λ timer. sinceAfter (runs (history .notes) timer) (runs after timer) (restarts timer code) count (history .since timer);
-      nextSend = cond (acknowledged (history .notes) code heard) (flipped (history .nextSend)) (history .nextSend);
-      expected = cond (receives (history .notes) code heard) (flipped (history .expected)) (history .expected);
+      nextSend = cond (acknowledged (history .notes) code heard) (1 - history .nextSend) (history .nextSend);
+      expected = cond (receives (history .notes) code heard) (1 - history .expected) (history .expected);
       block = cond (accepts (history .notes) code) payload (history .block);
     }
 
@@ -209,10 +209,11 @@ abbrev pub countsCall : Limits → (cacheLength : ℕ) → History → Call → 
 countsCall limits cacheLength history call =
     counts (history .notes) (call .event .code) (hear history (inputOf limits call cacheLength))
 
--- Refused if the arguments have a fault, or if the event counts and the count is the largest; else handled if it counts, ignored if not.
-abbrev pub answerBy : (fault : ℕ) (counted full : Bool) → Answer
-answerBy fault counted full =
-    cond (eqb fault 0) (cond counted (cond full (Refused 8) Handled) Ignored) (Refused fault)
+-- Refused if the arguments have one of faults 1 to 6, or if the event counts and the count is the largest;
+-- else handled if it counts, ignored if not.
+abbrev pub answerBy : (fault : ℕ) (takes full : Bool) → Answer
+answerBy fault takes full =
+    cond (eqb fault 0) (cond takes (cond full (Refused 8) Handled) Ignored) (Refused fault)
 
 -- What the history says of a call.
 unfoldable pub answerOf : Limits → (cacheLength : ℕ) → History → Call → Answer

@@ -1,6 +1,7 @@
 pub mod Orders
 pub mod Timers
 pub mod Condition
+pub mod Faults
 pub mod Refusal
 pub mod Advance
 pub mod Actions

@@ -1,28 +1,28 @@
 -- Document 01, "The five notes": what the notes can say. None of them names a state.
 use mathlib.Core.Bool.{Bool, true, false, not, _&&_}
 
--- The opening note; `helloSent` is document 01's "greeted".
+-- The opening note: `helloSent` is document 01's "greeted", `opened` its "open".
 pub data Opening : Type 0 where
   fresh helloSent opened locked : Opening
 
--- The latest run of a driver: the prover note and the verifier note.
-pub data Run : Type 0 where
-  off running good : Run
+-- The prover note and the verifier note: the latest run of the driver. It is off before the opening, the verifier also while the token is missing.
+pub data DriverRun : Type 0 where
+  off running good : DriverRun
 
 -- The five notes, but for the bits and the bytes of the block.
 pub record Notes : Type 0 where
   -- Opening.
   pub opening : Opening
-  -- Token: current, or missing.
+  -- Token: whether it is current. Open and not current, it is missing.
   pub current : Bool
   -- Prover.
-  pub prover : Run
+  pub prover : DriverRun
   -- Verifier.
-  pub verifier : Run
-  -- Block: accepted, and not yet acknowledged.
+  pub verifier : DriverRun
+  -- Block: whether one was accepted that is not yet acknowledged.
   pub waiting : Bool
 
--- Nothing has been said yet.
+-- No event has been counted.
 abbrev pub isFresh : Opening → Bool
 isFresh fresh = true
 isFresh helloSent = false
@@ -44,13 +44,13 @@ isOpen opened = true
 isOpen locked = false
 
 -- The run goes on.
-abbrev pub isRunning : Run → Bool
+abbrev pub isRunning : DriverRun → Bool
 isRunning off = false
 isRunning running = true
 isRunning good = false
 
 -- The run has succeeded.
-abbrev pub isGood : Run → Bool
+abbrev pub isGood : DriverRun → Bool
 isGood off = false
 isGood running = false
 isGood good = true

@@ -1,25 +1,15 @@
--- Document 01, "Refusal numbers": the eight faults in their order.
-use Prim.Native.Nat.{ℕ, suc}
-use mathlib.Core.Bool.{Bool, not, _&&_, cond}
+-- Document 01, "Refusal numbers": the eight faults in their order; those of the arguments are in `Faults`.
+use Prim.Native.Nat.{ℕ}
+use mathlib.Core.Bool.{Bool, not, _&&_}
 use mathlib.Core.List.{List, [], _∷_, _++_}
-use lib.Dec.{eqb, ltb}
+use lib.Dec.{eqb}
 use Rattle.record.specs.Limits.{Limits}
 use Rattle.table.specs.Table.{ignored}
 use Rattle.protocol.specs.Condition.{nextState}
 use Rattle.record.specs.WellFormed.{wellFormed}
+use Rattle.protocol.specs.Faults.{argumentFaults, firstFault}
 use Rattle.record.specs.declared.Connection.{Connection}
 use Rattle.event.specs.declared.Input.{Input}
-
--- Faults 1 to 6: those of the arguments.
-abbrev pub argumentFaults : (code : ℕ) → Input → List Bool
-argumentFaults code input =
-    ltb 23 code
-    ∷ ltb 2 (input .timer)
-    ∷ ltb 1 (input .bit)
-    ∷ input .«payload_too_long»
-    ∷ input .«cache_too_short»
-    ∷ input .suites .«too_long»
-    ∷ []
 
 -- Fault 7: the record is not well formed. Fault 8: the event would be handled, and the number is the largest.
 abbrev pub faults : Limits → Connection → (code : ℕ) → Input → List Bool
@@ -28,11 +18,6 @@ faults limits connection code input =
     ++ (not (wellFormed limits connection)
     ∷ (not (eqb (nextState connection code input) ignored) && eqb (connection .handled) (limits .handled))
     ∷ [])
-
--- The number of the first fault that is present, counted from n; 0 if none is.
-abbrev pub firstFault : ℕ → List Bool → ℕ
-firstFault n [] = 0
-firstFault n (fault ∷ others) = cond fault n (firstFault (suc n) others)
 
 -- The lowest number whose fault is present, 0 for none.
 unfoldable pub refusal : Limits → Connection → (code : ℕ) → Input → ℕ

@@ -4,7 +4,8 @@ use mathlib.Core.Bool.{Bool, false, not, _&&_, _||_, cond}
 use mathlib.Core.List.{[], _∷_}
 use lib.Dec.{eqb}
 use Rattle.protocol.specs.Orders.{none, start, cancel}
-use Rattle.record.specs.Tags.{Timer, H, HP, HV, DAT, RA, ACK, runsIn, isRa}
+use Rattle.record.specs.Tags.{runsIn, isRa}
+use Rattle.record.specs.Timer.{Timer, H, HP, HV, DAT, RA, ACK}
 use Rattle.table.specs.Sets.{isIn}
 
 -- The events that start the prover in the published table. Event 11 does so only if it does not lock.

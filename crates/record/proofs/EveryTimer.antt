@@ -2,7 +2,7 @@
 -- Assumes nothing.
 use mathlib.Core.Bool.{Bool, _&&_}
 use lib.Dec.{T}
-use Rattle.record.specs.Tags.{Timer, H, HP, HV, DAT, RA, ACK}
+use Rattle.record.specs.Timer.{Timer, H, HP, HV, DAT, RA, ACK}
 use Rattle.table.proofs.Finite.{and-left, and-right}
 
 abbrev pub timers : (Timer → Bool) → Bool

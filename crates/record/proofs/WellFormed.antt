@@ -7,7 +7,8 @@ use native.Mathlib.Omega.{arith}
 use lib.Dec.{T, eqb, leb, leb→le}
 use borrow.Author.Tests.{le-leb, eqb-true, not-true}
 use Rattle.record.specs.Limits.{Limits}
-use Rattle.record.specs.Tags.{Timer, H, HP, HV, DAT, RA, ACK, tagOf, runsIn, raMayRun, isRa}
+use Rattle.record.specs.Tags.{tagOf, runsIn, raMayRun, isRa}
+use Rattle.record.specs.Timer.{Timer, H, HP, HV, DAT, RA, ACK}
 use Rattle.record.specs.WellFormed.{fieldsFit, tagsAtMost, numberFits, bitsFit, flagFits, fitsState, onJustIn, wellFormed}
 use Rattle.record.specs.declared.Connection.{Connection}
 use Rattle.record.proofs.EveryTimer.{timers, timers-at}

@@ -1,3 +1,4 @@
 pub mod Limits
+pub mod Timer
 pub mod Tags
 pub mod WellFormed

@@ -1,13 +1,10 @@
--- Document 01, "The record and its tags": the six timers, their tags, and where each runs.
+-- Document 01, "The record and its tags": the tags of the timers, and where each runs.
 use Prim.Native.Nat.{ℕ}
 use mathlib.Core.Bool.{Bool, true, false}
 use mathlib.Core.List.{[], _∷_}
 use Rattle.table.specs.Sets.{isIn}
+use Rattle.record.specs.Timer.{Timer, H, HP, HV, DAT, RA, ACK}
 use Rattle.record.specs.declared.Connection.{Connection}
-
--- The timers. A driver is named by its timer: the prover by HP, the verifier by HV.
-pub data Timer : Type 0 where
-  H HP HV DAT RA ACK : Timer
 
 -- A timer's tag. HP shares the prover's and HV the verifier's.
 abbrev pub tagOf : Connection → Timer → ℕ

@@ -5,7 +5,8 @@ use mathlib.Core.List.{[], _∷_}
 use lib.Dec.{eqb, leb}
 use Rattle.record.specs.Limits.{Limits}
 use Rattle.table.specs.Sets.{isIn}
-use Rattle.record.specs.Tags.{Timer, H, HP, HV, DAT, RA, ACK, runsIn, raMayRun}
+use Rattle.record.specs.Tags.{runsIn, raMayRun}
+use Rattle.record.specs.Timer.{Timer, H, HP, HV, DAT, RA, ACK}
 use Rattle.record.specs.declared.Connection.{Connection}
 
 -- A record with a state and a number, all else 0.
