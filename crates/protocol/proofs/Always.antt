@@ -18,7 +18,8 @@ use Rattle.protocol.specs.Run.{Left, leftOf, resultsOf}
 use Rattle.protocol.specs.Step.{resultOf}
 use Rattle.protocol.specs.declared.Answer.{Answer}
 use Rattle.record.specs.declared.Connection.{Connection}
-use Rattle.protocol.proofs.Agreement.{Waits, one-call}
+use Rattle.protocol.proofs.Agreement.{one-call}
+use Rattle.protocol.proofs.Carried.{Waits}
 use Rattle.protocol.proofs.Blocks.{blocks}
 use Rattle.protocol.proofs.Follows.{Follows, follows-first, well-formed}
 use Rattle.protocol.proofs.Moved.{advanced}

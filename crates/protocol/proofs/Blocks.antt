@@ -1,10 +1,10 @@
 -- What a handled event does to the cached block, and what it orders for blocks: DATA, ACK and delivery, by its code.
 -- Assumes nothing.
 use mathlib.Core.Path.{_≡_, refl, sym, subst, subst⁻¹, ap, _∙_}
-use mathlib.Core.Bool.{Bool, true, false, not, _&&_, _||_, cond, Bool·beq}
+use mathlib.Core.Bool.{Bool, true, false, not, _||_, cond}
 use mathlib.Core.List.{List, [], _∷_}
 use mathlib.Core.Option.{some}
-use Prim.Native.Nat.{ℕ, _<_, _≤_}
+use Prim.Native.Nat.{ℕ, _≤_}
 use native.Mathlib.Omega.{arith}
 use lib.Dec.{T, eqb, eqb→eq}
 use lib.ListN.{length, take, length-append}
@@ -13,76 +13,24 @@ use borrow.Author.Tests.{eqb-true, le-leb}
 use Rattle.event.specs.Call.{Call, carriesPayload, inputBy, inputOf}
 use Rattle.event.specs.Kind.{kindAt, kindOf, fieldsOf}
 use Rattle.record.specs.Limits.{Limits}
-use Rattle.record.specs.WellFormed.{flagFits, wellFormed}
+use Rattle.record.specs.WellFormed.{wellFormed}
 use Rattle.table.specs.Sets.{isIn}
-use Rattle.table.specs.Table.{cell, ignored}
-use Rattle.protocol.specs.Actions.{closing, messageOf, bitOf, sourceOf, lengthOf, actionsOf}
+use Rattle.table.specs.Table.{ignored}
+use Rattle.protocol.specs.Actions.{bitOf, sourceOf, lengthOf, actionsOf}
 use Rattle.protocol.specs.Agreement.{block, when, dataOf, ackOf, deliveredOf}
 use Rattle.protocol.specs.Block.{stored, front, partOf}
-use Rattle.protocol.specs.Condition.{conditionOf, meets, holds, nextBy, nextState}
+use Rattle.protocol.specs.Condition.{conditionOf, meets, holds, nextState}
 use Rattle.protocol.specs.Orders as order
 use Rattle.protocol.specs.Step.{Result}
 use Rattle.protocol.specs.declared.Actions.{Actions}
 use Rattle.record.specs.declared.Connection.{Connection}
 use Rattle.event.specs.declared.Event.{Event}
 use Rattle.event.specs.declared.Input.{Input}
+use Rattle.protocol.proofs.BlockEvents.{cellRight, right, Handles, handles-if}
 use Rattle.protocol.proofs.Moved.{Advanced, advanced, Ordered, ordered}
 use Rattle.protocol.proofs.Stepped.{movedTo, Faultless, payload-length}
 use Rattle.record.proofs.WellFormed.{parts}
-use Rattle.table.proofs.Finite.{and-left, and-right, is-false, same, implied, below, below-at, either, either-at}
-
--- The message of an event that locks, or doesn't.
-abbrev messageBy : (locks : Bool) (code : ℕ) → ℕ
-messageBy locks code = cond locks (closing code) (messageOf code)
-
--- What the table has for the events of blocks, of state, code, flag and whether the condition holds, where the event leads to a state.
-abbrev handledRight : (s k flag : ℕ) (b : Bool) (to : ℕ) → Bool
-handledRight s k flag b to =
-    not (eqb s 9)
-    && (not (eqb k 2) || eqb flag 0)
-    && (not (eqb k 23) || eqb flag 1)
-    && (not (isIn (18 ∷ 19 ∷ []) k) || b)
-    && (not (isIn (2 ∷ 18 ∷ 19 ∷ 23 ∷ []) k) || not (eqb to 9))
-    && Bool·beq (eqb (messageBy (eqb to 9) k) order.DATA) (isIn (2 ∷ 23 ∷ []) k)
-    && Bool·beq (eqb (messageBy (eqb to 9) k) order.ACK) (eqb k 18)
-
-abbrev cellRight : (s k flag : ℕ) (b : Bool) (to : ℕ) → Bool
-cellRight s k flag b to = cond (not (flagFits s flag) || eqb to ignored) true (handledRight s k flag b to)
-
-all-right : T (below 10 (λ s. below 24 (λ k. below 2 (λ flag. either (λ b. cellRight s k flag b (nextBy s flag k b))))))
-unfolding cell
-all-right = tt
-
-right : (s k flag : ℕ) (b : Bool) → s ≤ 9 → k < 24 → flag ≤ 1 → T (cellRight s k flag b (nextBy s flag k b))
-right s k flag b hs hk hf =
-    either-at (λ b. cellRight s k flag b (nextBy s flag k b))
-    (below-at 2 (λ flag. either (λ b. cellRight s k flag b (nextBy s flag k b)))
-    (below-at 24 (λ k. below 2 (λ flag. either (λ b. cellRight s k flag b (nextBy s flag k b))))
-    (below-at 10 (λ s. below 24 (λ k. below 2 (λ flag. either (λ b. cellRight s k flag b (nextBy s flag k b))))) all-right s (omega arith)) k hk) flag (omega arith)) b
-
--- That, as facts.
-record Handles (s k flag : ℕ) (b : Bool) (to : ℕ) : Type 0 where
-  unlocked : eqb s 9 ≡ false
-  accepts : T (not (eqb k 2) || eqb flag 0)
-  repeats : T (not (eqb k 23) || eqb flag 1)
-  bit : T (not (isIn (18 ∷ 19 ∷ []) k) || b)
-  stays : T (not (isIn (2 ∷ 18 ∷ 19 ∷ 23 ∷ []) k) || not (eqb to 9))
-  is-data : eqb (messageBy (eqb to 9) k) order.DATA ≡ isIn (2 ∷ 23 ∷ []) k
-  is-ack : eqb (messageBy (eqb to 9) k) order.ACK ≡ eqb k 18
-
-handles-by : (s k flag : ℕ) (b : Bool) (to : ℕ) → T (handledRight s k flag b to) → Handles s k flag b to
-handles-by s k flag b to t = record {
-  unlocked = is-false _ (search (and-left, and-right) depth 16);
-  accepts = search (and-left, and-right) depth 16;
-  repeats = search (and-left, and-right) depth 16;
-  bit = search (and-left, and-right) depth 16;
-  stays = search (and-left, and-right) depth 16;
-  is-data = same _ _ (search (and-left, and-right) depth 16);
-  is-ack = same _ _ (search (and-left, and-right) depth 16);
-}
-
-handles-if : (s k flag : ℕ) (b : Bool) (to : ℕ) → flagFits s flag ≡ true → eqb to ignored ≡ false → T (cellRight s k flag b to) → Handles s k flag b to
-handles-if s k flag b to f i t = handles-by s k flag b to (rw (f, i) at t)
+use Rattle.table.proofs.Finite.{and-left, and-right, is-false, implied}
 
 -- An implication that a test states, at a code.
 at-code : (k n : ℕ) (p : ℕ → Bool) (b : Bool) → T (not (p k) || b) → k ≡ n → T (p n) → T b

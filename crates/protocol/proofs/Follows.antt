@@ -5,18 +5,20 @@ use mathlib.Core.Bool.{Bool, true, false, not, _&&_, _||_, cond, or-true}
 use mathlib.Core.List.{List, [], _∷_}
 use Prim.Native.Nat.{ℕ, _<_, _≤_}
 use native.Mathlib.Omega.{arith}
-use lib.Dec.{T, eqb}
+use lib.Dec.{T, eqb, eqb→eq}
 use lib.ListN.{length, take}
 use borrow.Author.Tests.{eq-eqb, ne-eqb}
 use Rattle.record.specs.Limits.{Limits}
 use Rattle.record.specs.Tags.{tagOf}
-use Rattle.record.specs.Timer.{Timer, H, HP, HV, DAT, RA, ACK}
+use Rattle.record.specs.Timer.{Timer}
 use Rattle.record.specs.WellFormed.{fresh, onJustIn, wellFormed}
 use Rattle.table.specs.Sets.{isIn}
 use Rattle.protocol.specs.History.{History, first, runs, stateOf}
 use Rattle.record.specs.declared.Connection.{Connection}
 use Rattle.protocol.proofs.Standings.{consistent, flagOf, Alone, alone}
+use Rattle.record.proofs.EveryTimer.{timers-at}
 use Rattle.record.proofs.WellFormed.{freeIn, Parts, whole}
+use Rattle.table.proofs.Finite.{is-false}
 
 -- The state that the notes stand for.
 abbrev pub stands : History → ℕ
@@ -47,20 +49,10 @@ pub record Follows (limits : Limits) (size : ℕ) (history : History) (connectio
 -- At first.
 no-timer : (x : Timer) → runs (first .notes) x ≡ false
 unfolding runs
-no-timer H = refl
-no-timer HP = refl
-no-timer HV = refl
-no-timer DAT = refl
-no-timer RA = refl
-no-timer ACK = refl
+no-timer x = is-false _ (timers-at (λ x. not (runs (first .notes) x)) tt x)
 
 tag-0 : (x : Timer) → tagOf fresh x ≡ 0
-tag-0 H = refl
-tag-0 HP = refl
-tag-0 HV = refl
-tag-0 DAT = refl
-tag-0 RA = refl
-tag-0 ACK = refl
+tag-0 x = eqb→eq _ _ (timers-at (λ x. eqb (tagOf fresh x) 0) tt x)
 
 free-or-0 : (free : Bool) (tag : ℕ) → tag ≡ 0 → tag ≡ cond free tag 0
 free-or-0 true tag e = refl

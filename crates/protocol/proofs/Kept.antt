@@ -1,7 +1,7 @@
 -- After a handled event the record goes on following the history.
 -- Assumes nothing.
 use mathlib.Core.Path.{_≡_, refl, sym, subst, subst⁻¹, ap, _∙_}
-use mathlib.Core.Bool.{Bool, true, false, not, _&&_, _||_, cond}
+use mathlib.Core.Bool.{Bool, true, false, not, cond}
 use mathlib.Core.List.{List, [], _∷_}
 use Prim.Native.Nat.{ℕ, _<_, _≤_, _+_, _-_}
 use native.Mathlib.Omega.{arith}
@@ -28,7 +28,7 @@ use Rattle.protocol.proofs.Moved.{Advanced, advanced}
 use Rattle.protocol.proofs.Standings.{ruled, tagGoes, Moves, Agree, agree}
 use Rattle.protocol.proofs.Stepped.{Faultless, payload-length}
 use Rattle.record.proofs.WellFormed.{freeIn}
-use Rattle.table.proofs.Finite.{below-at}
+use Rattle.table.proofs.Finite.{and-left, and-right, is-false, implied, below-at}
 
 -- Laws over tests and numbers. None of them knows the table.
 
@@ -70,15 +70,6 @@ flip-law l w f f′ x y e u h p = rw (e, p, u, other-bit y h)
 
 flip-most : (flips : Bool) (bit : ℕ) → bit ≤ 1 → cond flips (1 - bit) bit ≤ 1
 flip-most f bit h = cond-most f (1 - bit) bit 1 (omega arith) h
-
--- Before the opening no bit changes.
-early-law : (is was received acked : Bool) (x y : ℕ) → (T was → (x ≡ 0) × (y ≡ 0)) → T (not is || (was && (not received && not acked)))
-    → T is → (cond acked (1 - x) x ≡ 0) × (cond received (1 - y) y ≡ 0)
-early-law true true false false x y h g t = h tt
-early-law true true true acked x y h g t = absurd g
-early-law true true false true x y h g t = absurd g
-early-law true false received acked x y h g t = absurd g
-early-law false was received acked x y h g t = absurd t
 
 -- The cached length: the block's while it waits.
 length-law : (locks accepts ends waits : Bool) (given len : ℕ) (payload block : List ℕ) → len ≡ cond waits (length block) 0 → (T accepts → given ≡ length payload)
@@ -186,9 +177,11 @@ module _ (limits : Limits) (size : ℕ) (history : History) (connection : Connec
 
     early : T (isIn (0 ∷ 1 ∷ []) (stateOf m)) → (cond (acknowledged n k heard) (1 - history .nextSend) (history .nextSend) ≡ 0) × (cond (receives n k heard) (1 - history .expected) (history .expected) ≡ 0)
     early t =
-        let b = early-law (isIn (0 ∷ 1 ∷ []) (stateOf m)) (isIn (0 ∷ 1 ∷ []) (stands history)) (eqb k 18) (eqb k 19) (history .nextSend) (history .expected) (R .early) (G .early) t in (
-          ap (λ (a : Bool). cond a (1 - history .nextSend) (history .nextSend)) (G .acknowledges) ∙ b .0,
-          ap (λ (a : Bool). cond a (1 - history .expected) (history .expected)) (G .receives-is) ∙ b .1,
+        let g = implied (isIn (0 ∷ 1 ∷ []) (stateOf m)) _ (G .early) t in
+        let b = R .early (and-left (isIn (0 ∷ 1 ∷ []) (stands history)) _ g) in
+        let o = and-right (isIn (0 ∷ 1 ∷ []) (stands history)) _ g in (
+          ap (λ (a : Bool). cond a (1 - history .nextSend) (history .nextSend)) (G .acknowledges ∙ is-false (eqb k 19) (and-right (not (eqb k 18)) _ o)) ∙ b .0,
+          ap (λ (a : Bool). cond a (1 - history .expected) (history .expected)) (G .receives-is ∙ is-false (eqb k 18) (and-left (not (eqb k 18)) _ o)) ∙ b .1,
         )
 
     length-after : c′ .«cached_len» ≡ cond (m .waiting) (length block′) 0

@@ -1,6 +1,8 @@
 pub mod Agreement
 pub mod Always
+mod BlockEvents
 pub mod Blocks
+pub mod Carried
 pub mod Cases
 pub mod Decided
 pub mod Follows

@@ -127,7 +127,7 @@ moves n k r m =
     && Bool·beq (cond (eqb (stateOf m) 9) false (cond (eqb k 2) true (cond (eqb k 19) false (n .waiting)))) (m .waiting)
     && (not (isIn (0 ∷ 1 ∷ []) (stateOf m)) || (isIn (0 ∷ 1 ∷ []) (stateOf n) && (not (eqb k 18) && not (eqb k 19))))
     && timers (λ x. tagGoes (runs n x) (runs m x) (freeIn x (stateOf n)) (freeIn x (stateOf m)) (starts x k (stateOf n) (stateOf m)) (ends x k (stateOf n) (stateOf m)) (restarts x k))
-    && (not (isIn (2 ∷ 18 ∷ 23 ∷ []) k) || (attested n && attested m))
+    && (not (isIn (2 ∷ 23 ∷ []) k || eqb k 18) || (attested n && attested m))
     && (not (eqb k 23) || n .waiting)
 
 -- The table leads where the notes lead, or ignores what doesn't count.
@@ -177,7 +177,7 @@ pub record Moves (n : Notes) (k : ℕ) (r : Ruled) (m : Notes) : Type 0 where
   pub waits : cond (eqb (stateOf m) 9) false (cond (eqb k 2) true (cond (eqb k 19) false (n .waiting))) ≡ m .waiting
   pub early : T (not (isIn (0 ∷ 1 ∷ []) (stateOf m)) || (isIn (0 ∷ 1 ∷ []) (stateOf n) && (not (eqb k 18) && not (eqb k 19))))
   pub tags : (x : Timer) → T (tagGoes (runs n x) (runs m x) (freeIn x (stateOf n)) (freeIn x (stateOf m)) (starts x k (stateOf n) (stateOf m)) (ends x k (stateOf n) (stateOf m)) (restarts x k))
-  pub guarded : T (not (isIn (2 ∷ 18 ∷ 23 ∷ []) k) || (attested n && attested m))
+  pub guarded : T (not (isIn (2 ∷ 23 ∷ []) k || eqb k 18) || (attested n && attested m))
   pub repeats : T (not (eqb k 23) || n .waiting)
 
 moves-by : (n : Notes) (k : ℕ) (r : Ruled) (m : Notes) → T (moves n k r m) → Moves n k r m

@@ -10,8 +10,8 @@ use Rattle.event.specs.Kind.{named}
 use Rattle.record.specs.Limits.{Limits}
 use Rattle.record.specs.Timer.{Timer, H, HP, HV, DAT, RA, ACK}
 use Rattle.table.specs.Sets.{isIn}
-use Rattle.protocol.specs.Notes.{Opening, fresh, helloSent, opened, locked, off, running, good, Notes, isFresh, isHelloSent, isOpen, isRunning, isGood, isMissing, attested}
 use Rattle.protocol.specs.Faults.{argumentFaults, firstFault}
+use Rattle.protocol.specs.Notes.{Opening, fresh, helloSent, opened, locked, off, running, good, Notes, isFresh, isHelloSent, isOpen, isRunning, isGood, isMissing, attested}
 use Rattle.protocol.specs.declared.Answer.{Answer}
 use Rattle.protocol.specs.declared.Answer.the-variants.{Handled, Ignored, Refused}
 use Rattle.event.specs.declared.Input.{Input}
