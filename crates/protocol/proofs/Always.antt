@@ -20,10 +20,10 @@ use Rattle.protocol.specs.declared.Answer.{Answer}
 use Rattle.record.specs.declared.Connection.{Connection}
 use Rattle.protocol.proofs.Agreement.{one-call}
 use Rattle.protocol.proofs.Carried.{Waits}
-use Rattle.protocol.proofs.Blocks.{blocks}
+use Rattle.protocol.proofs.Blocks.{handled-blocks}
 use Rattle.protocol.proofs.Follows.{Follows, follows-first, well-formed}
 use Rattle.protocol.proofs.Moved.{advanced}
-use Rattle.protocol.proofs.Stepped.{Stepped, refused, ignored, handled, stepped, next, still, unrefused}
+use Rattle.protocol.proofs.Stepped.{Stepped, refused, ignored, handled, stepped, next, still}
 
 -- Reached: a fresh record is, and a call keeps it so.
 pub fresh-reached : (limits : Limits) (cache : List ℕ) → Reached limits (record { connection = fresh; cache = cache })
@@ -92,9 +92,7 @@ locked-once limits connection call cache l = by-step (stepped limits connection 
     by-step (refused n e) = subst⁻¹ (Unmoved connection cache) e (unmoved _)
     by-step (ignored n i e) = subst⁻¹ (Unmoved connection cache) e (unmoved _)
     by-step (handled n i e) =
-        let u = unrefused limits connection call cache n in
-        let b = blocks limits connection call cache (next limits connection call cache) (u .arguments) (u .well) refl i in
-        absurd (subst T (sym (eq-eqb (connection .state) 9 l) ∙ b .unlocked) tt)
+        absurd (subst T (sym (eq-eqb (connection .state) 9 l) ∙ handled-blocks limits connection call cache n i .unlocked) tt)
 
 pub locked-stays : (limits : Limits) → LockedStays limits
 unfolding AllUnmoved resultsOf

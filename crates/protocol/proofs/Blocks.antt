@@ -28,7 +28,7 @@ use Rattle.event.specs.declared.Event.{Event}
 use Rattle.event.specs.declared.Input.{Input}
 use Rattle.protocol.proofs.BlockEvents.{cellRight, right, Handles, handles-if}
 use Rattle.protocol.proofs.Moved.{Advanced, advanced, Ordered, ordered}
-use Rattle.protocol.proofs.Stepped.{movedTo, Faultless, payload-length}
+use Rattle.protocol.proofs.Stepped.{movedTo, number, next, Faultless, payload-length, unrefused}
 use Rattle.record.proofs.WellFormed.{parts}
 use Rattle.table.proofs.Finite.{and-left, and-right, is-false, implied}
 
@@ -186,13 +186,13 @@ module _ (limits : Limits) (connection : Connection) (call : Call) (cache : List
   after = advanced connection k input to
 
   -- The block in the cache after it.
-  held-by : (locks accepts ends : Bool) → eqb k 2 ≡ accepts → (T accepts → input .«payload_len» ≡ length (call .payload))
+  held-by : (locks accepts ends : Bool) → (T accepts → input .«payload_len» ≡ length (call .payload))
       → front (cond locks 0 (cond accepts (input .«payload_len») (cond ends 0 (connection .«cached_len»)))) (cond accepts (stored (call .payload) cache) cache)
       ≡ cond locks [] (cond accepts (call .payload) (cond ends [] (front (connection .«cached_len») cache)))
-  held-by true a b e f = front-none (cond a (stored (call .payload) cache) cache)
-  held-by false true b e f = ap (λ (n : ℕ). front n (stored (call .payload) cache)) (f tt) ∙ front-stored (call .payload) cache
-  held-by false false true e f = front-none cache
-  held-by false false false e f = refl
+  held-by true a b f = front-none (cond a (stored (call .payload) cache) cache)
+  held-by false true b f = ap (λ (n : ℕ). front n (stored (call .payload) cache)) (f tt) ∙ front-stored (call .payload) cache
+  held-by false false true f = front-none cache
+  held-by false false false f = refl
 
   -- The condition of an event with a bit.
   condition-at : (n : ℕ) → k ≡ n → T (isIn (18 ∷ 19 ∷ []) n) → T (meets connection input (conditionOf n (input .timer)))
@@ -226,5 +226,12 @@ module _ (limits : Limits) (connection : Connection) (call : Call) (cache : List
     data-ordered = when-same _ _ _ _ is-data (sent (eqb k 2) (eqb k 23) refl refl);
     ack-ordered = when-same _ _ _ _ is-ack (λ t. bit-18 (eqb→eq k 18 t));
     delivered = when-same _ _ _ _ delivers (λ t. part-18 (eqb→eq k 18 t));
-    held = ap (λ (n : ℕ). front n (result .cache)) (after .length) ∙ held-by (eqb to 9) (eqb k 2) (eqb k 19) refl (λ t. carries 2 (eqb→eq k 2 t) tt tt);
+    held = ap (λ (n : ℕ). front n (result .cache)) (after .length) ∙ held-by (eqb to 9) (eqb k 2) (eqb k 19) (λ t. carries 2 (eqb→eq k 2 t) tt tt);
   }
+
+-- The same of a call that is not refused and whose event is not ignored.
+pub handled-blocks : (limits : Limits) (connection : Connection) (call : Call) (cache : List ℕ) → number limits connection call cache ≡ 0 → eqb (next limits connection call cache) ignored ≡ false
+    → Blocks limits connection call cache (next limits connection call cache) (movedTo limits (next limits connection call cache) connection call cache)
+handled-blocks limits connection call cache n i =
+    let u = unrefused limits connection call cache n in
+    blocks limits connection call cache (next limits connection call cache) (u .arguments) (u .well) refl i
