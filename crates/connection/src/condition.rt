@@ -1,6 +1,7 @@
 // The conditions of the events.
 ghost use mathlib.Core.Path.{_≡_};
 ghost use Rattle.protocol.specs.Condition as spec;
+ghost use Rattle.event.specs.Kind.{named};
 ghost use Rattle.record.specs.Tags.{tagOf};
 use event::Input;
 use event::timers;
@@ -27,7 +28,7 @@ fn live(tag: u32, own: u32) -> bool
 
 // The record's tag of a handshake timer.
 fn handshake_tag(connection: Connection, timer: u32) -> u32
-    ensures { λ r. ⌜ r ≡ tagOf connection (spec.named timer) ⌝ }
+    ensures { λ r. ⌜ r ≡ tagOf connection (named timer) ⌝ }
 {
     match timer {
         timers::H => connection.h,
