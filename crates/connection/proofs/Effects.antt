@@ -22,7 +22,7 @@ use Rattle.protocol.specs.declared.Answer.the-variants.{Handled}
 use Rattle.record.specs.declared.Connection.{Connection}
 use Rattle.event.specs.declared.Input.{Input}
 use Rattle.table.proofs.Arms.{one-of}
-use Rattle.table.proofs.Finite.{and-left, and-right, is-false, below, below-at, either, either-at}
+use Rattle.table.proofs.Finite.{and-left, and-right, is-false, cells, cells-at}
 use Rattle.record.proofs.EveryTimer.{timers, timers-at}
 use Rattle.record.proofs.WellFormed.{offIn, parts, off, on}
 
@@ -101,16 +101,9 @@ abbrev cellFits : (s k flag : ℕ) (b : Bool) → Bool
 cellFits s k flag b = moveFits s k (settled flag (cell s k b))
 
 -- All cells fit, with either flag and with the condition held or not.
-all-fit : T (below 10 (λ s. below 24 (λ k. below 2 (λ flag. either (cellFits s k flag)))))
+all-fit : T (cells cellFits)
 unfolding cell
 all-fit = tt
-
-fit : (s k flag : ℕ) (b : Bool) → s ≤ 9 → k < 24 → flag ≤ 1 → T (cellFits s k flag b)
-fit s k flag b hs hk hf =
-    either-at (cellFits s k flag)
-    (below-at 2 (λ f. either (cellFits s k f))
-    (below-at 24 (λ j. below 2 (λ f. either (cellFits s j f)))
-    (below-at 10 (λ i. below 24 (λ j. below 2 (λ f. either (cellFits i j f)))) all-fit s (omega arith)) k hk) flag (omega arith)) b
 
 -- What that says of an event that moves on.
 record Fit (s k to : ℕ) : Type 0 where
@@ -154,7 +147,7 @@ module _ (limits : Limits) (connection : Connection) (code : ℕ) (input : Input
   unfolding nextState
   fitting =
       let p = parts limits connection well in
-      let t = fit (connection .state) code (connection .«awaiting_ack») (holds connection code input) (p .state) known (p .flag) in
+      let t = cells-at cellFits all-fit (connection .state) code (connection .«awaiting_ack») (holds connection code input) (p .state) known (p .flag) in
       fit-by (connection .state) code to (rw heard stays) (subst (λ (n : ℕ). T (moveFits (connection .state) code n)) next t)
 
   pub is-moving : OneOf moving code

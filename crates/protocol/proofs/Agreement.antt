@@ -16,7 +16,7 @@ use Rattle.protocol.specs.Agreement.{Block, isHandled, acceptedAfter, Al
 use Rattle.protocol.specs.Block.{partOf}
 use Rattle.protocol.specs.Condition.{nextState}
 use Rattle.protocol.specs.Faults.{argumentFaults, firstFault}
-use Rattle.protocol.specs.History.{History, first, hear, counts, notesAfter, counted, answerOf, keep, historyAfter, stateOf}
+use Rattle.protocol.specs.History.{History, first, hear, counts, notesAfter, counted, answerTo, keep, historyAfter, stateOf}
 use Rattle.protocol.specs.Run.{resultsOf}
 use Rattle.protocol.specs.Step.{unchanged, handledTo, resultOf}
 use Rattle.protocol.specs.declared.Answer.{Answer}
@@ -95,16 +95,16 @@ module _ (limits : Limits) (history : History) (accepted : Option Block) (connec
       (heeded limits history accepted connection cache R W call (arguments-fit e) counting) refl)))
       (moves limits history accepted connection cache R W call (arguments-fit e) counting)
 
-  carried : Carried limits (length cache) history accepted call (answerOf limits (length cache) history call) (historyAfter limits (length cache) history call) (resultOf limits connection call cache)
-  unfolding answerOf historyAfter
+  carried : Carried limits (length cache) history accepted call (answerTo limits (length cache) history call) (historyAfter limits (length cache) history call) (resultOf limits connection call cache)
+  unfolding answerTo historyAfter
   carried = carried-by (eqb fault 0) (counts (history .notes) code (hear history read)) (eqb (history .count) (limits .handled)) refl refl refl
 
 -- One call, with the size of the first cache.
 pub one-call : (limits : Limits) (size : ℕ) (history : History) (accepted : Option Block) (connection : Connection) (cache : List ℕ)
     → Follows limits size history connection cache → Waits history accepted → (call : Call)
-    → Carried limits size history accepted call (answerOf limits size history call) (historyAfter limits size history call) (resultOf limits connection call cache)
+    → Carried limits size history accepted call (answerTo limits size history call) (historyAfter limits size history call) (resultOf limits connection call cache)
 one-call limits size history accepted connection cache R W call =
-    subst (λ (s : ℕ). Carried limits s history accepted call (answerOf limits s history call) (historyAfter limits s history call) (resultOf limits connection call cache)) (R .size-is)
+    subst (λ (s : ℕ). Carried limits s history accepted call (answerTo limits s history call) (historyAfter limits s history call) (resultOf limits connection call cache)) (R .size-is)
     (carried limits history accepted connection cache (subst⁻¹ (λ (s : ℕ). Follows limits s history connection cache) (R .size-is) R) W call)
 
 every-call : (limits : Limits) (size : ℕ) (history : History) (accepted : Option Block) (connection : Connection) (cache : List ℕ) (calls : List Call)

@@ -25,14 +25,14 @@ use Rattle.protocol.proofs.Follows.{Follows, follows-first, well-formed
 use Rattle.protocol.proofs.Moved.{advanced}
 use Rattle.protocol.proofs.Stepped.{Stepped, refused, ignored, handled, stepped, next, still}
 
--- Reached: a fresh record is, and a call keeps it so.
+-- A fresh record is reached, and a call leads from reached to reached.
 pub fresh-reached : (limits : Limits) (cache : List ℕ) → Reached limits (record { connection = fresh; cache = cache })
-unfolding leftOf
+unfolding leftOf resultsOf
 fresh-reached limits cache = record { cache = cache; calls = []; leaves = refl }
 
 left-after : (limits : Limits) (connection : Connection) (cache : List ℕ) (calls more : List Call)
     → leftOf limits connection cache (calls ++ more) ≡ (let left = leftOf limits connection cache calls in leftOf limits (left .connection) (left .cache) more)
-unfolding leftOf
+unfolding leftOf resultsOf
 left-after limits connection cache [] more = refl
 left-after limits connection cache (call ∷ calls) more =
     let result = resultOf limits connection call cache in
@@ -41,7 +41,7 @@ left-after limits connection cache (call ∷ calls) more =
 pub step-reached : (limits : Limits) (left : Left) → Reached limits left → (call : Call)
     → let result = resultOf limits (left .connection) call (left .cache) in
     Reached limits (record { connection = result .outcome .connection; cache = result .cache })
-unfolding leftOf
+unfolding leftOf resultsOf
 step-reached limits left r call = record {
   cache = r .cache;
   calls = r .calls ++ (call ∷ []);
@@ -50,7 +50,7 @@ step-reached limits left r call = record {
 
 left-well-formed : (limits : Limits) (size : ℕ) (history : History) (accepted : Option Block) (connection : Connection) (cache : List ℕ)
     → Follows limits size history connection cache → Waits history accepted → (calls : List Call) → T (wellFormed limits (leftOf limits connection cache calls .connection))
-unfolding leftOf
+unfolding leftOf resultsOf
 left-well-formed limits size history accepted connection cache R W [] = well-formed limits size history connection cache R
 left-well-formed limits size history accepted connection cache R W (call ∷ calls) =
     let c = one-call limits size history accepted connection cache R W call in
@@ -61,7 +61,7 @@ reached-well-formed limits left r =
     subst (λ (l : Left). T (wellFormed limits (l .connection))) (r .leaves)
     (left-well-formed limits (length (r .cache)) first none fresh (r .cache) (follows-first limits (r .cache)) (λ t. absurd t) (r .calls))
 
--- The number.
+-- The number never falls: at one call, and over a list.
 never-falls-once : (limits : Limits) (connection : Connection) (call : Call) (cache : List ℕ) → connection .handled ≤ resultOf limits connection call cache .outcome .connection .handled
 never-falls-once limits connection call cache = by-step (stepped limits connection call cache)
   where
@@ -73,7 +73,7 @@ never-falls-once limits connection call cache = by-step (stepped limits connecti
         rw e (omega arith)
 
 pub never-falls : (limits : Limits) → NeverFalls limits
-unfolding leftOf
+unfolding leftOf resultsOf
 never-falls limits connection cache [] = omega arith
 never-falls limits connection cache (call ∷ calls) =
     let result = resultOf limits connection call cache in
@@ -81,7 +81,7 @@ never-falls limits connection cache (call ∷ calls) =
     let rest = never-falls limits (result .outcome .connection) (result .cache) calls in
     omega arith
 
--- Locked.
+-- A locked connection: one call, and a list.
 locked-once : (limits : Limits) (connection : Connection) (call : Call) (cache : List ℕ) → connection .state ≡ 9 → Unmoved connection cache (resultOf limits connection call cache)
 locked-once limits connection call cache l = by-step (stepped limits connection call cache)
   where

@@ -12,11 +12,8 @@ use Rattle.table.specs.Table.{cell, ignored}
 use Rattle.protocol.specs.Actions.{closing, messageOf}
 use Rattle.protocol.specs.Condition.{nextBy}
 use Rattle.protocol.specs.Orders as order
-use Rattle.table.proofs.Finite.{and-left, and-right, is-false, same, below, below-at, either, either-at}
-
--- The message of an event that locks, or doesn't.
-abbrev pub messageBy : (locks : Bool) (code : ℕ) → ℕ
-messageBy locks code = cond locks (closing code) (messageOf code)
+use Rattle.protocol.proofs.Moved.{messageBy}
+use Rattle.table.proofs.Finite.{and-left, and-right, is-false, same, cells, cells-at}
 
 -- What the table has for the events of blocks, of state, code, flag and whether the condition holds, where the event leads to a state.
 abbrev handledRight : (s k flag : ℕ) (b : Bool) (to : ℕ) → Bool
@@ -29,21 +26,18 @@ handledRight s k flag b to =
     && Bool·beq (eqb (messageBy (eqb to 9) k) order.DATA) (isIn (2 ∷ 23 ∷ []) k)
     && Bool·beq (eqb (messageBy (eqb to 9) k) order.ACK) (eqb k 18)
 
+-- Of every cell and flag that fit together: the event is ignored, or that holds.
 abbrev pub cellRight : (s k flag : ℕ) (b : Bool) (to : ℕ) → Bool
 cellRight s k flag b to = cond (not (flagFits s flag) || eqb to ignored) true (handledRight s k flag b to)
 
-all-right : T (below 10 (λ s. below 24 (λ k. below 2 (λ flag. either (λ b. cellRight s k flag b (nextBy s flag k b))))))
+cells-right : T (cells (λ s k flag b. cellRight s k flag b (nextBy s flag k b)))
 unfolding cell
-all-right = tt
+cells-right = tt
 
-pub right : (s k flag : ℕ) (b : Bool) → s ≤ 9 → k < 24 → flag ≤ 1 → T (cellRight s k flag b (nextBy s flag k b))
-right s k flag b hs hk hf =
-    either-at (λ b. cellRight s k flag b (nextBy s flag k b))
-    (below-at 2 (λ flag. either (λ b. cellRight s k flag b (nextBy s flag k b)))
-    (below-at 24 (λ k. below 2 (λ flag. either (λ b. cellRight s k flag b (nextBy s flag k b))))
-    (below-at 10 (λ s. below 24 (λ k. below 2 (λ flag. either (λ b. cellRight s k flag b (nextBy s flag k b))))) all-right s (omega arith)) k hk) flag (omega arith)) b
+pub cell-right : (s k flag : ℕ) (b : Bool) → s ≤ 9 → k < 24 → flag ≤ 1 → T (cellRight s k flag b (nextBy s flag k b))
+cell-right = cells-at (λ s k flag b. cellRight s k flag b (nextBy s flag k b)) cells-right
 
--- That, as facts.
+-- The same as a record of facts.
 pub record Handles (s k flag : ℕ) (b : Bool) (to : ℕ) : Type 0 where
   pub unlocked : eqb s 9 ≡ false
   pub accepts : T (not (eqb k 2) || eqb flag 0)

@@ -26,7 +26,7 @@ use Rattle.protocol.specs.declared.Actions.{Actions}
 use Rattle.record.specs.declared.Connection.{Connection}
 use Rattle.event.specs.declared.Event.{Event}
 use Rattle.event.specs.declared.Input.{Input}
-use Rattle.protocol.proofs.BlockEvents.{cellRight, right, Handles, handles-if}
+use Rattle.protocol.proofs.BlockEvents.{cellRight, cell-right, Handles, handles-if}
 use Rattle.protocol.proofs.Moved.{Advanced, advanced, Ordered, ordered}
 use Rattle.protocol.proofs.Stepped.{movedTo, number, next, Faultless, payload-length, unrefused}
 use Rattle.record.proofs.WellFormed.{parts}
@@ -65,7 +65,7 @@ when-same true false x y e h = absurd (subst T e tt)
 when-same false true x y e h = absurd (subst⁻¹ T e tt)
 when-same false false x y e h = refl
 
--- What no locking event does.
+-- What only an event that does not lock does.
 unless-locked : (locks b : Bool) → (T b → locks ≡ false) → cond locks false b ≡ b
 unless-locked true true h = absurd (subst T (h tt) tt)
 unless-locked true false h = refl
@@ -77,7 +77,7 @@ unfolding kindOf
 own-bit event n e c = ap (λ (m : ℕ). fieldsOf (kindAt m event) .bit) c ∙ e
 
 -- Of a handled call: what it found, what it orders for blocks, and the block that the cache holds after it.
-pub record Blocks (limits : Limits) (connection : Connection) (call : Call) (cache : List ℕ) (to : ℕ) (result : Result) : Type 0 where
+pub record Blocks (connection : Connection) (call : Call) (cache : List ℕ) (to : ℕ) (result : Result) : Type 0 where
   pub unlocked : eqb (connection .state) 9 ≡ false
   pub stays : T (isIn (2 ∷ 18 ∷ 19 ∷ 23 ∷ []) (call .event .code)) → eqb to 9 ≡ false
   -- 2 finds no block waiting, 23 finds one; 18 has the expected bit, 19 the next-send bit of a waiting block.
@@ -113,7 +113,7 @@ module _ (limits : Limits) (connection : Connection) (call : Call) (cache : List
       let p = parts limits connection well in
       handles-if (connection .state) k (connection .«awaiting_ack») (holds connection k input) to (p .flag-fits) heeds
       (subst (λ (n : ℕ). T (cellRight (connection .state) k (connection .«awaiting_ack») (holds connection k input) n)) leads
-      (right (connection .state) k (connection .«awaiting_ack») (holds connection k input) (p .state) (faultless .code) (p .flag)))
+      (cell-right (connection .state) k (connection .«awaiting_ack») (holds connection k input) (p .state) (faultless .code) (p .flag)))
 
   stays : T (isIn (2 ∷ 18 ∷ 19 ∷ 23 ∷ []) k) → eqb to 9 ≡ false
   stays t = is-false (eqb to 9) (implied (isIn (2 ∷ 18 ∷ 19 ∷ 23 ∷ []) k) _ (handles .stays) t)
@@ -211,7 +211,7 @@ module _ (limits : Limits) (connection : Connection) (call : Call) (cache : List
         sym (own-bit (call .event) 19 refl e) ∙ eqb→eq (input .bit) (connection .«next_send_bit») (and-right (eqb (connection .«awaiting_ack») 1) _ t),
       )
 
-  pub blocks : Blocks limits connection call cache to result
+  pub blocks : Blocks connection call cache to result
   blocks = record {
     unlocked = handles .unlocked;
     stays = stays;
@@ -231,7 +231,7 @@ module _ (limits : Limits) (connection : Connection) (call : Call) (cache : List
 
 -- The same of a call that is not refused and whose event is not ignored.
 pub handled-blocks : (limits : Limits) (connection : Connection) (call : Call) (cache : List ℕ) → number limits connection call cache ≡ 0 → eqb (next limits connection call cache) ignored ≡ false
-    → Blocks limits connection call cache (next limits connection call cache) (movedTo limits (next limits connection call cache) connection call cache)
+    → Blocks connection call cache (next limits connection call cache) (movedTo limits (next limits connection call cache) connection call cache)
 handled-blocks limits connection call cache n i =
     let u = unrefused limits connection call cache n in
     blocks limits connection call cache (next limits connection call cache) (u .arguments) (u .well) refl i

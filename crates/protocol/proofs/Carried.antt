@@ -146,7 +146,7 @@ module _ (limits : Limits) (history : History) (accepted : Option Block) (connec
     pub heeded : eqb (stateOf m) ignored ≡ false
     heeded = let s = alone m (G .consistent-after) .state in ne-eqb (stateOf m) ignored (λ e. omega arith)
 
-    B : Blocks limits connection call cache (stateOf m) result
+    B : Blocks connection call cache (stateOf m) result
     B = blocks limits connection call cache (stateOf m) arguments (well-formed limits (length cache) history connection cache R) leads-there heeded
 
     -- An event that orders DATA neither locks nor ends the wait.

@@ -1,4 +1,4 @@
--- The record and the sheet of a handled event, slot by slot, whether it locks or not.
+-- The record of a handled event, and of its sheet what blocks need, field by field, whether it locks or not.
 -- Assumes nothing.
 use mathlib.Core.Path.{_≡_, refl, sym}
 use mathlib.Core.Bool.{Bool, true, false, cond}
@@ -13,6 +13,10 @@ use Rattle.protocol.specs.Orders as order
 use Rattle.protocol.specs.declared.Actions.{Actions}
 use Rattle.record.specs.declared.Connection.{Connection}
 use Rattle.event.specs.declared.Input.{Input}
+
+-- The message of an event that locks, or doesn't.
+abbrev pub messageBy : (locks : Bool) (code : ℕ) → ℕ
+messageBy locks code = cond locks (closing code) (messageOf code)
 
 module _ (c : Connection) (code : ℕ) (input : Input) (to : ℕ) where
   pub record Advanced (locks : Bool) (r : Connection) : Type 0 where
@@ -66,7 +70,7 @@ module _ (c : Connection) (code : ℕ) (input : Input) (to : ℕ) where
   advanced = advanced-by (eqb to 9) refl
 
   pub record Ordered (locks : Bool) (a : Actions) : Type 0 where
-    pub message : a .message ≡ cond locks (closing code) (messageOf code)
+    pub message : a .message ≡ messageBy locks code
     pub bit : a .bit ≡ cond locks 0 (bitOf code (c .«next_send_bit») (input .bit))
     pub deliver : a .deliver ≡ cond locks false (eqb code 18)
     pub slice : a .«payload_slice» ≡ cond locks order.none (sourceOf code)

@@ -10,7 +10,7 @@ use Rattle.event.specs.Call.{Call}
 use Rattle.record.specs.Limits.{Limits}
 use Rattle.record.specs.WellFormed.{fresh}
 use Rattle.table.specs.Sets.{isIn}
-use Rattle.protocol.specs.History.{History, first, answerOf, historyAfter, stateOf}
+use Rattle.protocol.specs.History.{History, first, answerTo, historyAfter, stateOf}
 use Rattle.protocol.specs.Notes.{attested}
 use Rattle.protocol.specs.Orders as order
 use Rattle.protocol.specs.Run.{resultsOf}
@@ -88,7 +88,7 @@ AllAgree limits cacheLength history accepted [] [] = Unit {0}
 AllAgree limits cacheLength history accepted [] (result ∷ results) = ⊥
 AllAgree limits cacheLength history accepted (call ∷ calls) [] = ⊥
 AllAgree limits cacheLength history accepted (call ∷ calls) (result ∷ results) =
-    let answer = answerOf limits cacheLength history call in
+    let answer = answerTo limits cacheLength history call in
     let after = historyAfter limits cacheLength history call in
     let latest = acceptedAfter accepted call result in
     Agrees answer history after latest call result × AllAgree limits cacheLength after latest calls results

@@ -1,4 +1,4 @@
--- What holds of every run: well-formed records, a number that never falls, and a lock that stays.
+-- What follows from document 01 for every run: well-formed records, a number that never falls, and a lock that stays.
 use Prim.Native.Nat.{ℕ, _≤_}
 use mathlib.Core.Path.{_≡_}
 use mathlib.Core.List.{List, [], _∷_}
@@ -32,7 +32,7 @@ pub record Unmoved (connection : Connection) (cache : List ℕ) (result : Result
   pub no-orders : result .outcome .actions ≡ noActions
   pub no-part : result .part ≡ []
 
--- So are all of a list.
+-- Every result of a list is so.
 unfoldable pub AllUnmoved : Connection → (cache : List ℕ) → List Result → Type 0
 AllUnmoved connection cache [] = Unit {0}
 AllUnmoved connection cache (result ∷ results) = Unmoved connection cache result × AllUnmoved connection cache results

@@ -1,6 +1,6 @@
 -- Document 01, "The five notes": the history of a connection, kept from the calls' arguments and the cache's length alone.
 -- It reads no record, no state and no table; only `stateOf` and its parts, at the end, name states. With the step it shares what the
--- arguments mean: `inputOf`, `named`, the faults of the arguments.
+-- arguments mean: `inputOf`, `named`, and the faults of the arguments with their order.
 use Prim.Native.Nat.{ℕ, _+_, _-_}
 use mathlib.Core.Bool.{Bool, true, false, not, _&&_, _||_, cond}
 use mathlib.Core.List.{List, [], _∷_}
@@ -216,8 +216,8 @@ answerBy fault takes full =
     cond (eqb fault 0) (cond takes (cond full (Refused 8) Handled) Ignored) (Refused fault)
 
 -- What the history says of a call.
-unfoldable pub answerOf : Limits → (cacheLength : ℕ) → History → Call → Answer
-answerOf limits cacheLength history call =
+unfoldable pub answerTo : Limits → (cacheLength : ℕ) → History → Call → Answer
+answerTo limits cacheLength history call =
     answerBy (firstFault 1 (argumentFaults (call .event .code) (inputOf limits call cacheLength)))
     (countsCall limits cacheLength history call) (eqb (history .count) (limits .handled))
 
@@ -230,7 +230,7 @@ keep (Refused number) before after = before
 -- The history after a call.
 unfoldable pub historyAfter : Limits → (cacheLength : ℕ) → History → Call → History
 historyAfter limits cacheLength history call =
-    keep (answerOf limits cacheLength history call) history
+    keep (answerTo limits cacheLength history call) history
     (counted history (call .event .code) (inputOf limits call cacheLength) (call .payload))
 
 -- The state of an open connection: by the token, the runs of prover and verifier, and a waiting block.

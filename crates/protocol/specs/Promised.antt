@@ -14,7 +14,7 @@ pub record Promised (limits : Limits) (connection : Connection) (cache : List �
   pub cache-left : got .cache ≡ resultOf limits connection call cache .cache
   pub part : got .part ≡ partOf (got .outcome .actions) (call .payload) (got .cache)
 
--- So it is for each call of a list, given the record and the cache that it got from the last one.
+-- It is so for each call of a list, given the record and the cache that the last call left.
 unfoldable pub AllPromised : Limits → Connection → (cache : List ℕ) → List Call → List Result → Type 0
 AllPromised limits connection cache [] [] = Unit {0}
 AllPromised limits connection cache [] (got ∷ more) = ⊥

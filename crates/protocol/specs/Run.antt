@@ -13,14 +13,16 @@ resultsOf limits connection cache (call ∷ calls) =
     let result = resultOf limits connection call cache in
     result ∷ resultsOf limits (result .outcome .connection) (result .cache) calls
 
--- The record and the cache that a list of calls leaves.
+-- A record and a cache that a host has after some calls.
 pub record Left : Type 0 where
   pub connection : Connection
   pub cache : List ℕ
 
--- What is left after a list of calls, from a record and a cache.
+-- Those of the last result, or the ones before it if there is none.
+abbrev pub lastOf : Left → List Result → Left
+lastOf left [] = left
+lastOf left (result ∷ results) = lastOf (record { connection = result .outcome .connection; cache = result .cache }) results
+
+-- What a list of calls leaves.
 unfoldable pub leftOf : Limits → Connection → (cache : List ℕ) → List Call → Left
-leftOf limits connection cache [] = record { connection = connection; cache = cache }
-leftOf limits connection cache (call ∷ calls) =
-    let result = resultOf limits connection call cache in
-    leftOf limits (result .outcome .connection) (result .cache) calls
+leftOf limits connection cache calls = lastOf (record { connection = connection; cache = cache }) (resultsOf limits connection cache calls)

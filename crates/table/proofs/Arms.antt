@@ -2,7 +2,7 @@
 -- Assumes nothing.
 use mathlib.Core.Path.{_≡_, refl, sym, subst}
 use mathlib.Core.Logic.{_⊎_, inl, inr}
-use mathlib.Core.Bool.{Bool, true, false, _&&_, _||_, cond}
+use mathlib.Core.Bool.{Bool, true, false, _&&_, _||_, cond, or-true}
 use mathlib.Core.List.{List, [], _∷_}
 use Prim.Native.Nat.{ℕ, zero, suc, _+_, _-_, _<_, _≤_}
 use native.Mathlib.Decide.{ℕ-discrete}
@@ -13,10 +13,6 @@ use types.Run.{OneOf, hit}
 use mir.Val.{hasKey}
 use Rattle.table.proofs.Finite.{and-left, and-right}
 use Rattle.table.specs.Sets.{isIn}
-
-or-true : (b : Bool) → (b || true) ≡ true
-or-true true = refl
-or-true false = refl
 
 -- P holds at each of the keys.
 abbrev pub All : (ℕ → Type 0) → List ℕ → Type 0

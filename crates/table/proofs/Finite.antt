@@ -1,8 +1,8 @@
--- A test over every number below a bound, which antt computes, and what it says of one.
+-- Tests over finite sets, which antt computes: every number below a bound, both truth values, all cells; and what they say of one.
 -- Assumes nothing.
 use mathlib.Core.Path.{_≡_, refl, sym, subst}
 use mathlib.Core.Bool.{Bool, true, false, not, _&&_, _||_, Bool·beq}
-use Prim.Native.Nat.{ℕ, zero, suc, _<_}
+use Prim.Native.Nat.{ℕ, zero, suc, _<_, _≤_}
 use native.Mathlib.Decide.{ℕ-discrete}
 use native.Mathlib.Omega.{arith}
 use lib.Dec.{T}
@@ -54,3 +54,14 @@ either p = p true && p false
 pub either-at : (p : Bool → Bool) → T (either p) → (b : Bool) → T (p b)
 either-at p t true = and-left (p true) (p false) t
 either-at p t false = and-right (p true) (p false) t
+
+-- A test of every state and code, with either flag and with the condition held or not.
+abbrev pub cells : ((s k flag : ℕ) → Bool → Bool) → Bool
+cells p = below 10 (λ s. below 24 (λ k. below 2 (λ flag. either (p s k flag))))
+
+pub cells-at : (p : (s k flag : ℕ) → Bool → Bool) → T (cells p) → (s k flag : ℕ) (b : Bool) → s ≤ 9 → k < 24 → flag ≤ 1 → T (p s k flag b)
+cells-at p t s k flag b hs hk hf =
+    either-at (p s k flag)
+    (below-at 2 (λ f. either (p s k f))
+    (below-at 24 (λ j. below 2 (λ f. either (p s j f)))
+    (below-at 10 (λ i. below 24 (λ j. below 2 (λ f. either (p i j f)))) t s (omega arith)) k hk) flag (omega arith)) b
