@@ -23,7 +23,7 @@ use Rattle.protocol.specs.declared.Answer.{Answer}
 use Rattle.protocol.specs.declared.Answer.the-variants.{Handled, Ignored, Refused}
 use Rattle.record.specs.declared.Connection.{Connection}
 use Rattle.event.specs.declared.Input.{Input}
-use Rattle.protocol.proofs.Carried.{Waits, Carried, stays, leads-there, heeded, moves}
+use Rattle.protocol.proofs.Carried.{Waits, Carried, unmoved, leads-there, heeded, moves}
 use Rattle.protocol.proofs.Decided as decided
 use Rattle.protocol.proofs.Decided.{none-of}
 use Rattle.protocol.proofs.Follows.{Follows, follows-first, well-formed}
@@ -31,7 +31,7 @@ use Rattle.protocol.proofs.Kept.{leads}
 use Rattle.protocol.proofs.Stepped.{still, result-by, Faultless, faultless}
 use Rattle.table.proofs.Finite.{is-true}
 
--- The first fault of a list does not see one that is absent at its end.
+-- The first fault of a list stays the same if an absent one is added at the end.
 first-but : (n : ℕ) (xs : List Bool) → firstFault n xs ≡ firstFault n (xs ++ (false ∷ []))
 first-but n [] = refl
 first-but n (true ∷ xs) = refl
@@ -61,7 +61,7 @@ module _ (limits : Limits) (history : History) (accepted : Option Block) (connec
       → Carried limits (length cache) history accepted call answer history (resultOf limits connection call cache)
   rests answer e r =
       subst⁻¹ (Carried limits (length cache) history accepted call answer history) r
-      (stays limits (length cache) history accepted connection cache R W call answer e)
+      (unmoved limits (length cache) history accepted connection cache R W call answer e)
 
   arguments-fit : eqb fault 0 ≡ true → Faultless limits call (length cache)
   arguments-fit e = faultless limits call (length cache) (none-of 0 (argumentFaults code read) (eqb-true fault 0 e))

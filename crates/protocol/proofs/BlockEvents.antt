@@ -4,12 +4,10 @@ use mathlib.Core.Path.{_≡_}
 use mathlib.Core.Bool.{Bool, true, false, not, _&&_, _||_, cond, Bool·beq}
 use mathlib.Core.List.{[], _∷_}
 use Prim.Native.Nat.{ℕ, _<_, _≤_}
-use native.Mathlib.Omega.{arith}
 use lib.Dec.{T, eqb}
 use Rattle.record.specs.WellFormed.{flagFits}
 use Rattle.table.specs.Sets.{isIn}
 use Rattle.table.specs.Table.{cell, ignored}
-use Rattle.protocol.specs.Actions.{closing, messageOf}
 use Rattle.protocol.specs.Condition.{nextBy}
 use Rattle.protocol.specs.Orders as order
 use Rattle.protocol.proofs.Moved.{messageBy}

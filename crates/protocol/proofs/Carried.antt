@@ -25,7 +25,7 @@ use Rattle.record.specs.declared.Connection.{Connection}
 use Rattle.event.specs.declared.Input.{Input}
 use Rattle.protocol.proofs.Blocks.{Blocks, blocks, front-of, when-same}
 use Rattle.protocol.proofs.Follows.{Follows, well-formed}
-use Rattle.protocol.proofs.Kept.{judged, leads, kept}
+use Rattle.protocol.proofs.Kept.{agreed, leads, kept}
 use Rattle.protocol.proofs.Moved.{advanced}
 use Rattle.protocol.proofs.Standings.{Moves, ruled, alone}
 use Rattle.protocol.proofs.Stepped.{still, movedTo, Faultless}
@@ -42,15 +42,15 @@ pub record Carried (limits : Limits) (size : ℕ) (history : History) (accepted 
   pub follows : Follows limits size after (result .outcome .connection) (result .cache)
   pub waits : Waits after (acceptedAfter accepted call result)
 
--- A call that is not handled changes nothing.
+-- A call that is not handled changes nothing. R: the record follows the history. W: a waiting block is the one last accepted.
 module _ (limits : Limits) (size : ℕ) (history : History) (accepted : Option Block) (connection : Connection) (cache : List ℕ)
     (R : Follows limits size history connection cache) (W : Waits history accepted) (call : Call) where
   nothing-handled : (b : Bool) {A : Type 0} (codes : List ℕ) (value : A) → b ≡ false → none ≡ when (b && isIn codes (call .event .code)) value
   nothing-handled true codes value e = absurd (subst T e tt)
   nothing-handled false codes value e = refl
 
-  pub stays : (answer : Answer) → isHandled answer ≡ false → Carried limits size history accepted call answer history (still answer connection cache)
-  stays answer e =
+  pub unmoved : (answer : Answer) → isHandled answer ≡ false → Carried limits size history accepted call answer history (still answer connection cache)
+  unmoved answer e =
       let last : acceptedAfter accepted call (still answer connection cache) ≡ accepted = rw e in
       record {
         agrees = record {
@@ -110,6 +110,7 @@ held-block limits size history connection cache R h t =
     ap (λ (n : ℕ). front n cache) (R .length-is ∙ cond-true (history .notes .waiting) (length (history .block)) 0 t)
     ∙ front-of (length (history .block)) cache (omega arith) ∙ R .kept
 
+-- A handled call. F: the record after it follows the history after it. G: what the event does to the notes. B: what it does to blocks.
 module _ (limits : Limits) (history : History) (accepted : Option Block) (connection : Connection) (cache : List ℕ)
     (R : Follows limits (length cache) history connection cache) (W : Waits history accepted) (call : Call)
     (arguments : Faultless limits call (length cache)) where
@@ -137,7 +138,7 @@ module _ (limits : Limits) (history : History) (accepted : Option Block) (connec
     F = kept limits (length cache) history connection cache R call arguments counting
 
     G : Moves n k (ruled n k (hear history input)) m
-    G = judged limits (length cache) history connection cache R call arguments .move counting
+    G = agreed limits (length cache) history connection cache R call arguments .move counting
 
     -- The table leads to the state that the notes stand for then.
     pub leads-there : nextState connection k input ≡ stateOf m

@@ -23,7 +23,7 @@ abbrev after : ℕ → List Bool → ℕ
 after n [] = n
 after n (x ∷ xs) = after (suc n) xs
 
--- The first of more faults.
+-- The first fault of two lists: the first list's if it has one, else the second's.
 first-of : (n : ℕ) (xs ys : List Bool) → firstFault (suc n) (xs ++ ys) ≡ cond (eqb (firstFault (suc n) xs) 0) (firstFault (after (suc n) xs) ys) (firstFault (suc n) xs)
 first-of n [] ys = refl
 first-of n (true ∷ xs) ys = rw (ne-eqb (suc n) 0 (λ e. absurd (omega arith)))

@@ -102,12 +102,13 @@ bits-law false true false x y h = rw (h tt .0, h tt .1)
 bits-law false false true x y h = refl
 bits-law false false false x y h = refl
 
-tag-law : (free running : Bool) (since tag : ℕ) → tag ≡ cond running since (cond free tag 0) → (T running → 0 < since)
+tag-fits-law : (free running : Bool) (since tag : ℕ) → tag ≡ cond running since (cond free tag 0) → (T running → 0 < since)
     → cond free true (cond running (not (eqb tag 0)) (eqb tag 0)) ≡ true
-tag-law true running since tag e h = refl
-tag-law false true since tag e h = let s = h tt in rw (ne-eqb tag 0 (λ z. omega arith))
-tag-law false false since tag e h = eq-eqb tag 0 e
+tag-fits-law true running since tag e h = refl
+tag-fits-law false true since tag e h = let s = h tt in rw (ne-eqb tag 0 (λ z. omega arith))
+tag-fits-law false false since tag e h = eq-eqb tag 0 e
 
+-- R: the record follows the history.
 module _ (limits : Limits) (size : ℕ) (history : History) (connection : Connection) (cache : List ℕ) (R : Follows limits size history connection cache) where
   abbrev waits : Bool
   waits = history .notes .waiting
@@ -118,7 +119,7 @@ module _ (limits : Limits) (size : ℕ) (history : History) (connection : Connec
   tag-fits : (x : Timer) → cond (freeIn x (connection .state)) true (onJustIn x (connection .state) (tagOf connection x)) ≡ true
   tag-fits x =
       ap (λ (s : ℕ). cond (freeIn x s) true (onJustIn x s (tagOf connection x))) (R .state)
-      ∙ rw (here .running x) (tag-law (freeIn x (stands history)) (runs (history .notes) x) (history .since x) (tagOf connection x) (R .tag x) (R .started x))
+      ∙ rw (here .running x) (tag-fits-law (freeIn x (stands history)) (runs (history .notes) x) (history .since x) (tagOf connection x) (R .tag x) (R .started x))
 
   pub parts-of : Parts limits connection
   parts-of = record {

@@ -1,7 +1,7 @@
 -- What the record holds of an event's condition, and what the history hears of it.
 -- Assumes nothing.
 use mathlib.Core.Path.{_≡_, refl, sym, subst, subst⁻¹}
-use mathlib.Core.Bool.{Bool, true, false, not, _&&_, _||_, cond, Bool·beq, and-true, and-false, or-true}
+use mathlib.Core.Bool.{Bool, true, false, not, _&&_, _||_, cond, Bool·beq, and-true, and-false, not-and-self, or-true}
 use mathlib.Core.List.{List}
 use Prim.Native.Nat.{ℕ, _<_}
 use native.Mathlib.Omega.{arith}
@@ -48,15 +48,11 @@ same-tag : (tag since own : ℕ) (b : Bool) → eqb tag since ≡ b → own ≡ 
 same-tag tag since own true q e h = let t = eqb-true tag since q in rw (e, ne-eqb tag 0 (λ z. omega arith))
 same-tag tag since own false q e h = rw (e, q) (sym (and-false (not (eqb tag 0))))
 
-never-both : (b : Bool) → (not b && b) ≡ false
-never-both true = refl
-never-both false = refl
-
 live-law : (running ra may : Bool) (tag since own : ℕ) → own ≡ cond running since (cond (ra && may) own 0) → (T running → 0 < since)
     → T (Bool·beq (running && eqb tag since) (running && isLive tag own) && (not (isLive tag own) || (running || ra)))
 live-law true ra may tag since own e h = rw (same-tag tag since own (eqb tag since) refl e (h tt), or-true, and-true) (beq-refl (isLive tag own))
 live-law false true may tag since own e h = rw or-true tt
-live-law false false may tag since own e h = rw (e, never-both) tt
+live-law false false may tag since own e h = rw (e, not-and-self) tt
 
 -- A bit, which a locked record has forgotten.
 bit-law : (nine : Bool) (bit x y : ℕ) → x ≡ cond nine 0 y → T (nine || Bool·beq (eqb bit x) (eqb bit y))
@@ -74,6 +70,7 @@ none-at-9 s waiting false e f t = refl
 none-at-9 s true true e f t = absurd (subst⁻¹ T (rw (eqb-true s 9 e) at f) tt)
 none-at-9 s false true e f t = absurd t
 
+-- R: the record follows the history.
 module _ (limits : Limits) (size : ℕ) (history : History) (connection : Connection) (cache : List ℕ) (R : Follows limits size history connection cache) (input : Input) where
   pub hearing : (condition : Condition) → T (related (history .notes) condition (meets connection input condition) (heardAt (hear history input) condition))
   hearing (live x) = live-law (runs (history .notes) x) (isRa x) (raMayRun (stands history)) (input .tag) (history .since x) (tagOf connection x) (R .tag x) (R .started x)

@@ -94,6 +94,7 @@ size-law : (accepts : Bool) (payload cache : List ℕ) (size most : ℕ) → len
 size-law true payload cache size most e h f = let p = f tt in simp (length-append, length-drop) (omega arith)
 size-law false payload cache size most e h f = e
 
+-- R: the record follows the history. G: what the event does to the notes. A: what it does to the record.
 module _ (limits : Limits) (size : ℕ) (history : History) (connection : Connection) (cache : List ℕ) (R : Follows limits size history connection cache)
     (call : Call) (faultless : Faultless limits call (length cache)) where
   abbrev n : Notes
@@ -112,9 +113,10 @@ module _ (limits : Limits) (size : ℕ) (history : History) (connection : Connec
   abbrev m : Notes
   m = notesAfter n k heard
 
-  pub judged : Agree n k (holds connection k input) (ruled n k heard)
+  -- The table and the notes agree on the event.
+  pub agreed : Agree n k (holds connection k input) (ruled n k heard)
   unfolding holds
-  judged =
+  agreed =
       let condition = conditionOf k (input .timer) in
       subst⁻¹ (Agree n k (meets connection input condition)) (asks-once history input n k (faultless .code))
       (agree n k (input .timer) (meets connection input condition) (heardAt heard condition) (R .notes-fit) (faultless .code) (faultless .timer)
@@ -123,11 +125,11 @@ module _ (limits : Limits) (size : ℕ) (history : History) (connection : Connec
   -- The table leads where the notes lead.
   pub leads : nextState connection k input ≡ cond (counts n k heard) (stateOf m) ignored
   unfolding nextState
-  leads = (λ i. nextBy (R .state i) (R .flag i) k (holds connection k input)) ∙ judged .next
+  leads = (λ i. nextBy (R .state i) (R .flag i) k (holds connection k input)) ∙ agreed .next
 
   module _ (counting : T (counts n k heard)) where
     G : Moves n k (ruled n k heard) m
-    G = judged .move counting
+    G = agreed .move counting
 
     A : Advanced connection k input (stateOf m) (eqb (stateOf m) 9) (advance connection k input (stateOf m))
     A = advanced connection k input (stateOf m)

@@ -53,8 +53,8 @@ standings-at p t n =
     (openings-at (λ o. either (λ c. eachRun (λ q. eachRun (λ v. either (λ w. p (standing o c q v w)))))) t (n .opening))
     (n .current)) (n .prover)) (n .verifier)) (n .waiting)
 
--- Which notes stand together: nothing before the opening; then the prover has started, and so has the verifier just while
--- the token is current; nothing waits once locked.
+-- Which notes stand together. Before the opening nothing runs or waits; while open the prover has started, and the verifier has
+-- just if the token is current; once locked nothing waits.
 abbrev isOff : DriverRun → Bool
 isOff off = true
 isOff running = false
@@ -94,7 +94,8 @@ related n expectedBit b h = eqb (stateOf n) 9 || Bool·beq b h
 related n nextSendBit b h = Bool·beq b (n .waiting && h)
 related n nothing b h = b && h
 
--- Whether a timer's rules fit the history's: it was running or not, is or not, was free in the record or not, is or not.
+-- Whether what an event does to a timer's tag fits the history, which has the timer running before or not, and after or not; the tag may
+-- be free before or after, and the event starts it, ends it, or starts it again.
 abbrev pub tagGoes : (was is wasFree isFree started ended again : Bool) → Bool
 tagGoes was is wasFree isFree started ended again =
     cond is (Bool·beq started (not was || again) && (started || not ended)) (not started && (ended || (isFree || (not was && not wasFree))))

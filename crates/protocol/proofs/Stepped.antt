@@ -1,6 +1,6 @@
 -- What became of a call: refused, ignored or handled, each with what the host gets for it.
 -- Assumes nothing.
-use mathlib.Core.Path.{_≡_, refl, subst, subst⁻¹, ap}
+use mathlib.Core.Path.{_≡_, refl, sym, subst⁻¹, ap, _∙_}
 use mathlib.Core.Bool.{Bool, true, false, not, _&&_, cond}
 use mathlib.Core.List.{List, []}
 use Prim.Native.Nat.{ℕ, _<_, _≤_}
@@ -16,7 +16,7 @@ use Rattle.protocol.specs.Block.{partOf}
 use Rattle.protocol.specs.Condition.{nextState}
 use Rattle.protocol.specs.Faults.{argumentFaults}
 use Rattle.protocol.specs.Refusal.{faults, refusal}
-use Rattle.protocol.specs.Step.{unchanged, handledTo, decided, refusalOf, cacheAfter, Result, resultWith, resultOf}
+use Rattle.protocol.specs.Step.{unchanged, handledTo, decided, stepOf, refusalOf, cacheAfter, Result, resultWith, resultOf}
 use Rattle.protocol.specs.declared.Answer.{Answer}
 use Rattle.protocol.specs.declared.Answer.the-variants.{Handled, Ignored, Refused}
 use Rattle.protocol.specs.declared.Outcome.{Outcome}
@@ -50,7 +50,7 @@ module _ (limits : Limits) (connection : Connection) (call : Call) (cache : List
     ignored : number ≡ 0 → next ≡ table.ignored → resultOf limits connection call cache ≡ still Ignored connection cache → Stepped
     handled : number ≡ 0 → eqb next table.ignored ≡ false → resultOf limits connection call cache ≡ movedTo limits next connection call cache → Stepped
 
-  -- The result, of the outcome.
+  -- The result that goes with an outcome.
   pub result-by : (outcome : Outcome) → decided limits connection (call .event .code) input ≡ outcome → resultOf limits connection call cache ≡ resultWith outcome (call .payload) (cacheAfter (outcome .answer) call cache)
   unfolding resultOf
   result-by outcome e = ap (λ (o : Outcome). resultWith o (call .payload) (cacheAfter (o .answer) call cache)) e
@@ -69,7 +69,7 @@ module _ (limits : Limits) (connection : Connection) (call : Call) (cache : List
   pub stepped : Stepped
   stepped = stepped-by (eqb number 0) (eqb next table.ignored) refl refl
 
--- What the arguments of a call without faults are.
+-- What no fault of the arguments means. (Fault 6, of the suite lists, is not needed.)
 pub record Faultless (limits : Limits) (call : Call) (size : ℕ) : Type 0 where
   pub code : call .event .code < 24
   pub timer : inputOf limits call size .timer < 3
@@ -77,9 +77,10 @@ pub record Faultless (limits : Limits) (call : Call) (size : ℕ) : Type 0 where
   pub payload : T (carriesPayload (call .event .code)) → length (call .payload) ≤ limits .payload
   pub cache : limits .payload ≤ size
 
-carried : (a b : Bool) → (a && b) ≡ false → T a → b ≡ false
-carried true b e t = e
-carried false b e t = absurd t
+-- The other side of a conjunction that fails.
+other-fails : (a b : Bool) → (a && b) ≡ false → T a → b ≡ false
+other-fails true b e t = e
+other-fails false b e t = absurd t
 
 pub faultless : (limits : Limits) (call : Call) (size : ℕ) → NoneOf (argumentFaults (call .event .code) (inputOf limits call size)) → Faultless limits call size
 unfolding inputBy
@@ -87,7 +88,7 @@ faultless limits call size none = record {
   code = let h = ltb-false 23 (call .event .code) (none .0) in omega arith;
   timer = let h = ltb-false 2 (inputOf limits call size .timer) (none .1 .0) in omega arith;
   bit = ltb-false 1 (inputOf limits call size .bit) (none .1 .1 .0);
-  payload = λ t. ltb-false (limits .payload) (length (call .payload)) (carried (carriesPayload (call .event .code)) _ (none .1 .1 .1 .0) t);
+  payload = λ t. ltb-false (limits .payload) (length (call .payload)) (other-fails (carriesPayload (call .event .code)) _ (none .1 .1 .1 .0) t);
   cache = ltb-false size (limits .payload) (none .1 .1 .1 .1 .0);
 }
 
@@ -102,10 +103,6 @@ pub record Unrefused (limits : Limits) (connection : Connection) (call : Call) (
   pub well : T (wellFormed limits connection)
   pub room : eqb (next limits connection call cache) table.ignored ≡ false → eqb (connection .handled) (limits .handled) ≡ false
 
-room-by : (skips full : Bool) → (not skips && full) ≡ false → skips ≡ false → full ≡ false
-room-by true full e s = absurd (subst T s tt)
-room-by false full e s = e
-
 pub unrefused : (limits : Limits) (connection : Connection) (call : Call) (cache : List ℕ) → number limits connection call cache ≡ 0 → Unrefused limits connection call cache
 unfolding refusal
 unrefused limits connection call cache e =
@@ -114,5 +111,17 @@ unrefused limits connection call cache e =
     record {
       arguments = faultless limits call (length cache) (n .0, (n .1 .0, (n .1 .1 .0, (n .1 .1 .1 .0, (n .1 .1 .1 .1 .0, (n .1 .1 .1 .1 .1 .0, tt))))));
       well = subst⁻¹ T (not-false (wellFormed limits connection) (last .0)) tt;
-      room = room-by (eqb (next limits connection call cache) table.ignored) (eqb (connection .handled) (limits .handled)) (last .1 .0);
+      room = λ s. other-fails (not (eqb (next limits connection call cache) table.ignored)) (eqb (connection .handled) (limits .handled)) (last .1 .0) (subst⁻¹ (λ (b : Bool). T (not b)) s tt);
     }
+
+never-refused : (n : ℕ) → Refused n ≡ Handled → ⊥
+never-refused n e = let z : _≡_ {A = ℕ} 0 1 = cc in omega arith
+
+-- A handled call is not refused.
+pub handled-unrefused : (limits : Limits) (connection : Connection) (call : Call) (cache : List ℕ) → stepOf limits connection call (length cache) .answer ≡ Handled → Unrefused limits connection call cache
+handled-unrefused limits connection call cache h = unrefused limits connection call cache (by-number (eqb (number limits connection call cache) 0) refl)
+  where
+    by-number : (free : Bool) → eqb (number limits connection call cache) 0 ≡ free → number limits connection call cache ≡ 0
+    by-number true e = eqb-true (number limits connection call cache) 0 e
+    by-number false e =
+        absurd (never-refused (number limits connection call cache) (sym (ap (λ (o : Outcome). o .answer) (decided-by limits connection call cache false (eqb (next limits connection call cache) table.ignored) e refl)) ∙ h))

@@ -58,7 +58,7 @@ unfolding call-of
 store-requires c κs =
     let d = c .before .before .before .before in
     let a = d .before .before .before .before .before .before .before .before .before .args in
-    room-for limits (a .connection) (a .event) (length (now (a .payload))) (length (now (a .cache))) _ (ap (λ (o : Outcome). o .answer) (sym (stepped d)) ∙ c .before .before .enum-told .given .1) (c .before .if1 .taken)
+    room-for limits (a .connection) (call-of d) (now (a .cache)) (ap (λ (o : Outcome). o .answer) (sym (stepped d)) ∙ c .before .before .enum-told .given .1) (c .before .if1 .taken)
 
 returns-2 : tie.Need-returns-2
 unfolding resultOf call-of
