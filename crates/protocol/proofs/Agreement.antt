@@ -1,7 +1,7 @@
 -- Demand 3: after every call of any list the step agrees with the history.
 -- Assumes nothing.
 use mathlib.Core.Path.{_≡_, refl, sym, subst, subst⁻¹, ap, _∙_}
-use mathlib.Core.Bool.{Bool, true, false, not, cond}
+use mathlib.Core.Bool.{Bool, true, false, not}
 use mathlib.Core.List.{List, [], _∷_, _++_}
 use mathlib.Core.Option.{Option, none}
 use Prim.Native.Nat.{ℕ, suc}
@@ -16,7 +16,7 @@ use Rattle.protocol.specs.Agreement.{Block, isHandled, acceptedAfter, Al
 use Rattle.protocol.specs.Block.{partOf}
 use Rattle.protocol.specs.Condition.{nextState}
 use Rattle.protocol.specs.Faults.{argumentFaults, firstFault}
-use Rattle.protocol.specs.History.{History, first, hear, counts, notesAfter, counted, answerTo, keep, historyAfter, stateOf}
+use Rattle.protocol.specs.History.{History, first, hear, counts, notesAfter, counted, answerBy, answerTo, keep, historyAfter, stateOf}
 use Rattle.protocol.specs.Run.{resultsOf}
 use Rattle.protocol.specs.Step.{unchanged, handledTo, resultOf}
 use Rattle.protocol.specs.declared.Answer.{Answer}
@@ -68,7 +68,7 @@ module _ (limits : Limits) (history : History) (accepted : Option Block) (connec
 
   -- The step and the history, by the fault of the arguments, whether the event counts, and whether the count is the largest.
   carried-by : (free counting full : Bool) → eqb fault 0 ≡ free → counts (history .notes) code (hear history read) ≡ counting → eqb (history .count) (limits .handled) ≡ full
-      → let answer = cond free (cond counting (cond full (Refused 8) Handled) Ignored) (Refused fault) in
+      → let answer = answerBy free counting full fault in
       Carried limits (length cache) history accepted call answer (keep answer history (counted history code read (call .payload))) (resultOf limits connection call cache)
   unfolding partOf
   carried-by false counting full e c f =

@@ -11,7 +11,7 @@ use Rattle.protocol.specs.Condition.{nextState}
 use Rattle.record.specs.Limits.{Limits}
 use Rattle.protocol.specs.Faults.{argumentFaults, firstFault}
 use Rattle.protocol.specs.Refusal.{refusal}
-use Rattle.protocol.specs.Step.{refusalNumber, unchanged, handledTo, decided}
+use Rattle.protocol.specs.Step.{refusalNumber, unchanged, handledTo, decidedBy, decided}
 use Rattle.record.specs.WellFormed.{wellFormed}
 use Rattle.protocol.specs.declared.Answer.the-variants.{Ignored, Refused}
 use Rattle.record.specs.declared.Connection.{Connection}
@@ -44,14 +44,16 @@ module _ (limits : Limits) (connection : Connection) (code : ℕ) (input : Input
   abbrev pub lowerFaults : List Bool
   lowerFaults = argumentFaults code input ++ (not (wellFormed limits connection) ∷ [])
 
-  -- The outcome, of the lowest of them, the next state and whether the number is the largest.
+  -- The refusal, of the lowest of them, the next state and whether the number is the largest.
+  abbrev numberBy : (lower to : ℕ) (full : Bool) → ℕ
+  numberBy lower to full = cond (eqb lower 0) (cond (not (eqb to 11) && full) 8 0) lower
+
+  -- The outcome, by the same.
   abbrev judged : (lower to : ℕ) (full : Bool) → Outcome
-  judged lower to full =
-      let number = cond (eqb lower 0) (cond (not (eqb to 11) && full) 8 0) lower in
-      cond (eqb number 0) (cond (eqb to 11) (unchanged Ignored connection) (handledTo to connection code input)) (unchanged (Refused number) connection)
+  judged lower to full = decidedBy (numberBy lower to full) to connection code input
 
   -- The refusal, by the lower faults and fault 8.
-  refusal-by : refusal limits connection code input ≡ cond (eqb (firstFault 1 lowerFaults) 0) (cond (not (eqb (nextState connection code input) 11) && eqb (connection .handled) (limits .handled)) 8 0) (firstFault 1 lowerFaults)
+  refusal-by : refusal limits connection code input ≡ numberBy (firstFault 1 lowerFaults) (nextState connection code input) (eqb (connection .handled) (limits .handled))
   unfolding refusal
   refusal-by = first-of 0 lowerFaults ((not (eqb (nextState connection code input) 11) && eqb (connection .handled) (limits .handled)) ∷ [])
 
@@ -83,15 +85,14 @@ module _ (limits : Limits) (connection : Connection) (code : ℕ) (input : Input
   pub no-faults : 0 ≡ firstFault 1 lowerFaults → NoneOf lowerFaults
   no-faults e = none-of 0 lowerFaults (sym e)
 
-  number-by : (n to : ℕ) (none ignores : Bool) → eqb n 0 ≡ none
-      → refusalNumber (cond none (cond ignores (unchanged Ignored connection) (handledTo to connection code input)) (unchanged (Refused n) connection) .answer) ≡ n
-  number-by n to true true e = sym (eqb-true n 0 e)
-  number-by n to true false e = sym (eqb-true n 0 e)
-  number-by n to false ignores e = refl
+  number-by : (n to : ℕ) (none ignores : Bool) → eqb n 0 ≡ none → eqb to 11 ≡ ignores → refusalNumber (decidedBy n to connection code input .answer) ≡ n
+  number-by n to true true e i = rw (e, i) (sym (eqb-true n 0 e))
+  number-by n to true false e i = rw (e, i) (sym (eqb-true n 0 e))
+  number-by n to false ignores e i = rw e refl
 
   pub number-is : refusalNumber (decided limits connection code input .answer) ≡ refusal limits connection code input
   unfolding decided
   number-is =
       let n = refusal limits connection code input in
       let to = nextState connection code input in
-      number-by n to (eqb n 0) (eqb to 11) refl
+      number-by n to (eqb n 0) (eqb to 11) refl refl

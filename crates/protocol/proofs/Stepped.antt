@@ -55,16 +55,17 @@ module _ (limits : Limits) (connection : Connection) (call : Call) (cache : List
   unfolding resultOf
   result-by outcome e = ap (λ (o : Outcome). resultWith o (call .payload) (cacheAfter (o .answer) call cache)) e
 
-  decided-by : (free skips : Bool) → eqb number 0 ≡ free → eqb next table.ignored ≡ skips
+  -- The outcome, by whether there is a refusal and whether the event is ignored.
+  outcome-by : (free skips : Bool) → eqb number 0 ≡ free → eqb next table.ignored ≡ skips
       → decided limits connection (call .event .code) input ≡ cond free (cond skips (unchanged Ignored connection) (handledTo next connection (call .event .code) input)) (unchanged (Refused number) connection)
   unfolding decided
-  decided-by free skips e i = rw (e, i)
+  outcome-by free skips e i = rw (e, i)
 
   stepped-by : (free skips : Bool) → eqb number 0 ≡ free → eqb next table.ignored ≡ skips → Stepped
   unfolding partOf
-  stepped-by true true e i = ignored (eqb-true number 0 e) (eqb-true next table.ignored i) (result-by (unchanged Ignored connection) (decided-by true true e i))
-  stepped-by true false e i = handled (eqb-true number 0 e) i (result-by (handledTo next connection (call .event .code) input) (decided-by true false e i))
-  stepped-by false b e i = refused e (result-by (unchanged (Refused number) connection) (decided-by false b e i))
+  stepped-by true true e i = ignored (eqb-true number 0 e) (eqb-true next table.ignored i) (result-by (unchanged Ignored connection) (outcome-by true true e i))
+  stepped-by true false e i = handled (eqb-true number 0 e) i (result-by (handledTo next connection (call .event .code) input) (outcome-by true false e i))
+  stepped-by false b e i = refused e (result-by (unchanged (Refused number) connection) (outcome-by false b e i))
 
   pub stepped : Stepped
   stepped = stepped-by (eqb number 0) (eqb next table.ignored) refl refl
@@ -124,4 +125,4 @@ handled-unrefused limits connection call cache h = unrefused limits connection c
     by-number : (free : Bool) → eqb (number limits connection call cache) 0 ≡ free → number limits connection call cache ≡ 0
     by-number true e = eqb-true (number limits connection call cache) 0 e
     by-number false e =
-        absurd (never-refused (number limits connection call cache) (sym (ap (λ (o : Outcome). o .answer) (decided-by limits connection call cache false (eqb (next limits connection call cache) table.ignored) e refl)) ∙ h))
+        absurd (never-refused (number limits connection call cache) (sym (ap (λ (o : Outcome). o .answer) (outcome-by limits connection call cache false (eqb (next limits connection call cache) table.ignored) e refl)) ∙ h))

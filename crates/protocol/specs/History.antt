@@ -211,15 +211,14 @@ countsCall limits cacheLength history call =
 
 -- Refused if the arguments have one of faults 1 to 6, or if the event counts and the count is the largest;
 -- else handled if it counts, ignored if not.
-abbrev pub answerBy : (fault : ℕ) (takes full : Bool) → Answer
-answerBy fault takes full =
-    cond (eqb fault 0) (cond takes (cond full (Refused 8) Handled) Ignored) (Refused fault)
+abbrev pub answerBy : (free takes full : Bool) (fault : ℕ) → Answer
+answerBy free takes full fault = cond free (cond takes (cond full (Refused 8) Handled) Ignored) (Refused fault)
 
 -- What the history says of a call.
 unfoldable pub answerTo : Limits → (cacheLength : ℕ) → History → Call → Answer
 answerTo limits cacheLength history call =
-    answerBy (firstFault 1 (argumentFaults (call .event .code) (inputOf limits call cacheLength)))
-    (countsCall limits cacheLength history call) (eqb (history .count) (limits .handled))
+    let fault = firstFault 1 (argumentFaults (call .event .code) (inputOf limits call cacheLength)) in
+    answerBy (eqb fault 0) (countsCall limits cacheLength history call) (eqb (history .count) (limits .handled)) fault
 
 -- A call that is refused or ignored isn't counted and moves no note.
 abbrev pub keep : Answer → (before after : History) → History

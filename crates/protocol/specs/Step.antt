@@ -37,13 +37,16 @@ handledTo to connection code input = record {
 }
 
 -- Refused with the refusal's number, else ignored where the table says so, else handled.
+abbrev pub decidedBy : (number to : ℕ) → Connection → (code : ℕ) → Input → Outcome
+decidedBy number to connection code input =
+    cond (eqb number 0)
+    (cond (eqb to ignored) (unchanged Ignored connection) (handledTo to connection code input))
+    (unchanged (Refused number) connection)
+
+-- The outcome, by the refusal and the state that follows.
 unfoldable pub decided : Limits → Connection → (code : ℕ) → Input → Outcome
 decided limits connection code input =
-    cond (eqb (refusal limits connection code input) 0)
-    (cond (eqb (nextState connection code input) ignored)
-    (unchanged Ignored connection)
-    (handledTo (nextState connection code input) connection code input))
-    (unchanged (Refused (refusal limits connection code input)) connection)
+    decidedBy (refusal limits connection code input) (nextState connection code input) connection code input
 
 -- The outcome of a call. Of the cache it reads the length alone.
 abbrev pub stepOf : Limits → Connection → Call → (cacheLength : ℕ) → Outcome
