@@ -46,7 +46,7 @@ pub record Follows (limits : Limits) (size : ℕ) (history : History) (connectio
   pub kept : take (length (history .block)) cache ≡ history .block
   pub size-is : length cache ≡ size
 
--- At first.
+-- A fresh record follows the first history.
 no-timer : (x : Timer) → runs (first .notes) x ≡ false
 unfolding runs
 no-timer x = is-false _ (timers-at (λ x. not (runs (first .notes) x)) tt x)

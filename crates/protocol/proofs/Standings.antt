@@ -14,7 +14,7 @@ use Rattle.table.specs.Table.{cell, ignored}
 use Rattle.protocol.specs.Advance.{flagAfter}
 use Rattle.protocol.specs.Condition.{Condition, live, goodHello, goodToken, expectedBit, nextSendBit, nothing, conditionOf, nextBy}
 use Rattle.protocol.specs.History.{Heard, accepts, acknowledged, receives, counts, notesAfter, runs, restarts, stateOf}
-use Rattle.protocol.specs.Notes.{Opening, fresh, helloSent, opened, locked, DriverRun, off, running, good, Notes, attested}
+use Rattle.protocol.specs.Notes.{Opening, fresh, helloSent, opened, locked, DriverRun, off, running, good, Notes, isRunning, isGood, attested}
 use Rattle.protocol.specs.Timers.{starts, ends}
 use Rattle.record.proofs.EveryTimer.{timers, timers-at}
 use Rattle.record.proofs.WellFormed.{freeIn}
@@ -53,13 +53,11 @@ standings-at p t n =
     (openings-at (λ o. either (λ c. eachRun (λ q. eachRun (λ v. either (λ w. p (standing o c q v w)))))) t (n .opening))
     (n .current)) (n .prover)) (n .verifier)) (n .waiting)
 
+abbrev isOff : DriverRun → Bool
+isOff run = not (isRunning run || isGood run)
+
 -- Which notes stand together. Before the opening nothing runs or waits; while open the prover has started, and the verifier has
 -- just if the token is current; once locked nothing waits.
-abbrev isOff : DriverRun → Bool
-isOff off = true
-isOff running = false
-isOff good = false
-
 abbrev consistentBy : Opening → (current proverOff verifierOff waiting : Bool) → Bool
 consistentBy fresh c p v w = not c && (p && (v && not w))
 consistentBy helloSent c p v w = not c && (p && (v && not w))
@@ -143,6 +141,7 @@ agreesIf n k name b h = not (related n (conditionOf k name) b h) || agrees n k b
 abbrev right : Notes → Bool
 right n = not (consistent n) || (fitsAlone n && below 24 (λ k. below 3 (λ name. either (λ b. either (agreesIf n k name b)))))
 
+-- The test: antt computes it.
 all-right : T (standings right)
 unfolding consistent stateOf runs counts notesAfter cell
 all-right = tt
