@@ -18,7 +18,7 @@ pub record Left : Type 0 where
   pub connection : Connection
   pub cache : List ℕ
 
--- Those of the last result, or the ones before it if there is none.
+-- The record and the cache of the last result, or the given ones if there is none.
 abbrev pub lastOf : Left → List Result → Left
 lastOf left [] = left
 lastOf left (result ∷ results) = lastOf (record { connection = result .outcome .connection; cache = result .cache }) results
