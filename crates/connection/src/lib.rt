@@ -19,6 +19,7 @@ mod sheet;
 use crate::block::front;
 use crate::block::store;
 use crate::judging::decide;
+pub use crate::sheet::NO_ACTIONS;
 pub use event::Event;
 use event::choose_suites;
 use event::read;

@@ -7,7 +7,7 @@ use protocol::Actions;
 use protocol::orders;
 
 // The empty order sheet.
-pub(crate) const NO_ACTIONS: Actions = Actions {
+pub const NO_ACTIONS: Actions = Actions {
     message: orders::NONE,
     prover: orders::NONE,
     verifier: orders::NONE,

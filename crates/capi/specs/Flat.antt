@@ -1,0 +1,72 @@
+-- Record, order sheet and suite choice as a host in C holds them: numbers in a fixed order.
+use Prim.Native.Nat.{ℕ}
+use mathlib.Core.Bool.{Bool, cond}
+use mathlib.Core.List.{List, [], _∷_}
+use lib.ListN.{getD}
+use Rattle.suites.specs.Answer.{Answer}
+use Rattle.protocol.specs.declared.Actions.{Actions}
+use Rattle.record.specs.declared.Connection.{Connection}
+
+-- Yes or no as a number.
+abbrev pub bitOf : Bool → ℕ
+bitOf held = cond held 1 0
+
+-- The fields of a record, in document 01's order.
+abbrev pub numbersOf : Connection → List ℕ
+numbersOf connection =
+    connection .state
+    ∷ connection .«awaiting_ack»
+    ∷ connection .«next_send_bit»
+    ∷ connection .«expected_bit»
+    ∷ connection .«cached_len»
+    ∷ connection .handled
+    ∷ connection .h
+    ∷ connection .prover
+    ∷ connection .verifier
+    ∷ connection .dat
+    ∷ connection .ra
+    ∷ connection .ack
+    ∷ []
+
+-- The record that twelve numbers are.
+abbrev pub recordOf : List ℕ → Connection
+recordOf numbers = record {
+  state = getD numbers 0 0;
+  «awaiting_ack» = getD numbers 1 0;
+  «next_send_bit» = getD numbers 2 0;
+  «expected_bit» = getD numbers 3 0;
+  «cached_len» = getD numbers 4 0;
+  handled = getD numbers 5 0;
+  h = getD numbers 6 0;
+  prover = getD numbers 7 0;
+  verifier = getD numbers 8 0;
+  dat = getD numbers 9 0;
+  ra = getD numbers 10 0;
+  ack = getD numbers 11 0;
+}
+
+-- The slots of the order sheet, in the order of `Actions`.
+abbrev pub slotsOf : Actions → List ℕ
+slotsOf actions =
+    actions .message
+    ∷ actions .prover
+    ∷ actions .verifier
+    ∷ actions .h
+    ∷ actions .hp
+    ∷ actions .hv
+    ∷ actions .dat
+    ∷ actions .ra
+    ∷ actions .ack
+    ∷ actions .«dat_seconds»
+    ∷ actions .bit
+    ∷ bitOf (actions .deliver)
+    ∷ actions .«verifier_suite»
+    ∷ actions .«prover_suite»
+    ∷ actions .«payload_slice»
+    ∷ actions .«payload_len»
+    ∷ []
+
+-- Of a suite choice: whether the verifier's suite was found, that suite, and both for the prover's.
+abbrev pub suitesOf : Answer → List ℕ
+suitesOf answer =
+    bitOf (answer .verifier .found) ∷ answer .verifier .suite ∷ bitOf (answer .prover .found) ∷ answer .prover .suite ∷ []

@@ -1,0 +1,28 @@
+-- The event as a host in C hands it over: the verdict on a token is a number.
+use Prim.Native.Nat.{ℕ}
+use mathlib.Core.Bool.{Bool, _&&_}
+use mathlib.Core.List.{[], _∷_}
+use lib.Dec.{eqb, ltb}
+use Rattle.table.specs.Sets.{isIn}
+use Rattle.event.specs.declared.Event.{Event}
+use Rattle.capi.specs.declared.FlatEvent.{FlatEvent}
+
+-- The refusal of a verdict that is neither 0 nor 1.
+abbrev pub refusedVerdict : ℕ
+refusedVerdict = 41
+
+-- Events 11 and 13 carry a verdict; 0 is no and 1 is yes.
+abbrev pub wrongVerdict : FlatEvent → Bool
+wrongVerdict flat = isIn (11 ∷ 13 ∷ []) (flat .code) && ltb 1 (flat .verdict)
+
+-- The event of document 01.
+abbrev pub eventOf : FlatEvent → Event
+eventOf flat = record {
+  code = flat .code;
+  tag = flat .tag;
+  timer = flat .timer;
+  bit = flat .bit;
+  verdict = eqb (flat .verdict) 1;
+  expiry = flat .expiry;
+  now = flat .now;
+}

@@ -1,0 +1,55 @@
+// The suite choice in numbers.
+ghost use mathlib.Core.Path.{_≡_};
+ghost use mathlib.Core.List.{_∷_, []};
+ghost use Rattle.capi.specs.Flat.{bitOf, suitesOf};
+ghost use Rattle.suites.specs.Numbers.{answerOf, foundOf};
+use crate::flat::bit_of;
+use connection::refusals;
+use suites::Choice;
+use suites::Common;
+
+// The number of its refusal, 0 for none.
+pub(crate) fn refusal_in(choice: Choice) -> u32
+    ensures { λ r. ⌜ r ≡ answerOf choice .refusal ⌝ }
+{
+    match choice {
+        Choice::Chosen {
+            verifier: _,
+            prover: _,
+        } => refusals::NONE,
+        Choice::TooLong => refusals::LIST_TOO_LONG,
+    }
+}
+
+// Whether each suite was found, and its number.
+pub(crate) fn numbers_in(choice: Choice) -> [u32; 4]
+    ensures { λ r. ⌜ r ≡ suitesOf (answerOf choice) ⌝ }
+{
+    let Choice::Chosen { verifier, prover } = choice else {
+        return [0, 0, 0, 0];
+    };
+    [
+        found(verifier),
+        number(verifier),
+        found(prover),
+        number(prover),
+    ]
+}
+
+fn found(common: Common) -> u32
+    ensures { λ r. ⌜ r ≡ bitOf (foundOf common .found) ⌝ }
+{
+    let Common::Suite(_) = common else {
+        return bit_of(false);
+    };
+    bit_of(true)
+}
+
+fn number(common: Common) -> u32
+    ensures { λ r. ⌜ r ≡ foundOf common .suite ⌝ }
+{
+    let Common::Suite(number) = common else {
+        return 0;
+    };
+    number
+}

@@ -1,0 +1,134 @@
+// The connection step, the token's time and the suite choice for hosts in C and Rust.
+//
+// Structs are lent as numbers in a fixed order; the header `menhotrac.h` names them. The host lends every slice and
+// keeps nothing of the library's.
+ghost use mathlib.Core.Path.{_≡_};
+ghost use Rattle.capi.specs.Face.{returned};
+ghost use Rattle.capi.specs.Flat.{numbersOf, suitesOf};
+ghost use Rattle.capi.specs.Verdict.{eventOf, wrongVerdict};
+ghost use Rattle.record.specs.WellFormed as spec;
+ghost use Rattle.suites.specs.Choice.{choice};
+ghost use Rattle.token.specs.SecondsLeft.{secondsLeft};
+
+mod answer;
+mod choice;
+mod flat;
+
+use crate::answer::number_of;
+use crate::answer::refuse_verdict;
+use crate::choice::numbers_in;
+use crate::choice::refusal_in;
+use crate::flat::numbers_of;
+use crate::flat::record_of;
+use crate::flat::slots_of;
+use connection::Event;
+use connection::codes;
+use connection::fresh;
+use connection::step;
+use suites::choose;
+use token::seconds_left;
+
+const YES: u32 = 1;
+
+// An event as a host in C hands it over: `Event` with the verdict as a number.
+#[repr(C)]
+pub struct FlatEvent {
+    pub code: u32,
+    pub tag: u32,
+    pub timer: u32,
+    pub bit: u32,
+    pub verdict: u32,
+    pub expiry: i64,
+    pub now: i64,
+}
+
+fn event_of(flat: FlatEvent) -> Event
+    ensures { λ r. ⌜ r ≡ eventOf flat ⌝ }
+{
+    Event {
+        code: flat.code,
+        tag: flat.tag,
+        timer: flat.timer,
+        bit: flat.bit,
+        verdict: flat.verdict == YES,
+        expiry: flat.expiry,
+        now: flat.now,
+    }
+}
+
+fn wrong_verdict(flat: FlatEvent) -> bool
+    ensures { λ r. ⌜ r ≡ wrongVerdict flat ⌝ }
+{
+    ((flat.code == codes::SC_HELLO) | (flat.code == codes::SC_DAT)) & (flat.verdict > YES)
+}
+
+// The record of a new connection.
+#[no_mangle]
+pub extern "C" fn menhotrac_fresh(connection: &mut [u32; 12])
+    ensures { λ _. ⌜ now (connection .exit) ≡ numbersOf spec.fresh ⌝ }
+{
+    *connection = numbers_of(fresh());
+}
+
+// The seconds left of a token.
+#[no_mangle]
+pub extern "C" fn menhotrac_seconds_left(expiry: i64, now: i64) -> i64
+    ensures { λ r. ⌜ r ≡ secondsLeft expiry now ⌝ }
+{
+    seconds_left(expiry, now)
+}
+
+// The suite choice, asked alone: the refusal, and both suites with whether they were found.
+#[no_mangle]
+pub extern "C" fn menhotrac_choose_suites(
+    our_verifiers: &[u32],
+    peer_provers: &[u32],
+    peer_verifiers: &[u32],
+    our_provers: &[u32],
+    chosen: &mut [u32; 4],
+) -> u32
+    ensures { λ r. ⌜ r ≡ choice (now («our_verifiers» .entry)) (now («peer_provers» .entry)) (now («peer_verifiers» .entry)) (now («our_provers» .entry)) .refusal ⌝ }
+    ensures { λ _. ⌜ now (chosen .exit) ≡ suitesOf (choice (now («our_verifiers» .entry)) (now («peer_provers» .entry)) (now («peer_verifiers» .entry)) (now («our_provers» .entry))) ⌝ }
+{
+    let choice = choose(our_verifiers, peer_provers, peer_verifiers, our_provers);
+    *chosen = numbers_in(choice);
+    refusal_in(choice)
+}
+
+// One step. It changes the record and writes the actions; a handled `UPPER_SEND_DATA` writes the cache.
+#[no_mangle]
+pub extern "C" fn menhotrac_step(
+    connection: &mut [u32; 12],
+    event: FlatEvent,
+    payload: &[u8],
+    cache: &mut [u8],
+    actions: &mut [u32; 16],
+    our_verifiers: &[u32],
+    peer_provers: &[u32],
+    peer_verifiers: &[u32],
+    our_provers: &[u32],
+) -> u32
+    ensures { λ r. ⌜ r ≡ returned (now (connection .entry)) event (now (payload .entry)) (now (cache .entry)) (now («our_verifiers» .entry)) (now («peer_provers» .entry)) (now («peer_verifiers» .entry)) (now («our_provers» .entry)) .answer ⌝ }
+    ensures { λ _. ⌜ now (connection .exit) ≡ returned (now (connection .entry)) event (now (payload .entry)) (now (cache .entry)) (now («our_verifiers» .entry)) (now («peer_provers» .entry)) (now («peer_verifiers» .entry)) (now («our_provers» .entry)) .connection ⌝ }
+    ensures { λ _. ⌜ now (actions .exit) ≡ returned (now (connection .entry)) event (now (payload .entry)) (now (cache .entry)) (now («our_verifiers» .entry)) (now («peer_provers» .entry)) (now («peer_verifiers» .entry)) (now («our_provers» .entry)) .actions ⌝ }
+    ensures { λ _. ⌜ now (cache .exit) ≡ returned (now (connection .entry)) event (now (payload .entry)) (now (cache .entry)) (now («our_verifiers» .entry)) (now («peer_provers» .entry)) (now («peer_verifiers» .entry)) (now («our_provers» .entry)) .cache ⌝ }
+{
+    let before = record_of(connection);
+    let stepped = step(
+        before,
+        event_of(event),
+        payload,
+        our_verifiers,
+        peer_provers,
+        peer_verifiers,
+        our_provers,
+        cache,
+    );
+    let outcome = refuse_verdict(wrong_verdict(event), before, stepped);
+    let after = outcome.connection;
+    let orders = outcome.actions;
+    let answer = outcome.answer;
+    *connection = numbers_of(after);
+    *actions = slots_of(orders);
+    number_of(answer)
+}
