@@ -1,4 +1,4 @@
-pub mod Flat
 pub mod Answer
+pub mod Choice
 pub mod Verdict
-pub mod Face
+pub mod Returned

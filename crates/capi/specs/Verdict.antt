@@ -1,6 +1,6 @@
 -- The event as a host in C hands it over: the verdict on a token is a number.
 use Prim.Native.Nat.{ℕ}
-use mathlib.Core.Bool.{Bool, _&&_}
+use mathlib.Core.Bool.{Bool, _&&_, cond}
 use mathlib.Core.List.{[], _∷_}
 use lib.Dec.{eqb, ltb}
 use Rattle.table.specs.Sets.{isIn}
@@ -14,6 +14,10 @@ refusedVerdict = 41
 -- Events 11 and 13 carry a verdict; 0 is no and 1 is yes.
 abbrev pub wrongVerdict : FlatEvent → Bool
 wrongVerdict flat = isIn (11 ∷ 13 ∷ []) (flat .code) && ltb 1 (flat .verdict)
+
+-- The interface's own refusal of an event, 0 for none.
+abbrev pub refusedAs : FlatEvent → ℕ
+refusedAs flat = cond (wrongVerdict flat) refusedVerdict 0
 
 -- The event of document 01.
 abbrev pub eventOf : FlatEvent → Event

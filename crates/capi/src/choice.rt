@@ -1,9 +1,9 @@
 // The suite choice in numbers.
 ghost use mathlib.Core.Path.{_≡_};
-ghost use mathlib.Core.List.{_∷_, []};
-ghost use Rattle.capi.specs.Flat.{bitOf, suitesOf};
+ghost use Rattle.capi.specs.Choice.{chosenOf};
+ghost use Rattle.connection.specs.Flat.{bitOf};
 ghost use Rattle.suites.specs.Numbers.{answerOf, foundOf};
-use crate::flat::bit_of;
+use connection::flat::bit_of;
 use connection::refusals;
 use suites::Choice;
 use suites::Common;
@@ -23,7 +23,7 @@ pub(crate) fn refusal_in(choice: Choice) -> u32
 
 // Whether each suite was found, and its number.
 pub(crate) fn numbers_in(choice: Choice) -> [u32; 4]
-    ensures { λ r. ⌜ r ≡ suitesOf (answerOf choice) ⌝ }
+    ensures { λ r. ⌜ r ≡ chosenOf (answerOf choice) ⌝ }
 {
     let Choice::Chosen { verifier, prover } = choice else {
         return [0, 0, 0, 0];

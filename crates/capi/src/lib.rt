@@ -3,32 +3,33 @@
 // Structs are lent as numbers in a fixed order; the header `menhotrac.h` names them. The host lends every slice and
 // keeps nothing of the library's.
 ghost use mathlib.Core.Path.{_≡_};
-ghost use Rattle.capi.specs.Face.{returned};
-ghost use Rattle.capi.specs.Flat.{numbersOf, suitesOf};
-ghost use Rattle.capi.specs.Verdict.{eventOf, wrongVerdict};
+ghost use Rattle.capi.specs.Choice.{chosenOf};
+ghost use Rattle.capi.specs.Returned.{returned};
+ghost use Rattle.capi.specs.Verdict.{eventOf, refusedAs, wrongVerdict};
+ghost use Rattle.connection.specs.Flat.{numbersOf};
 ghost use Rattle.record.specs.WellFormed as spec;
 ghost use Rattle.suites.specs.Choice.{choice};
 ghost use Rattle.token.specs.SecondsLeft.{secondsLeft};
 
 mod answer;
 mod choice;
-mod flat;
 
 use crate::answer::number_of;
-use crate::answer::refuse_verdict;
 use crate::choice::numbers_in;
 use crate::choice::refusal_in;
-use crate::flat::numbers_of;
-use crate::flat::record_of;
-use crate::flat::slots_of;
 use connection::Event;
 use connection::codes;
+use connection::flat::numbers_of;
 use connection::fresh;
-use connection::step;
+use connection::refusals;
+use connection::step_flat;
 use suites::choose;
 use token::seconds_left;
 
 const YES: u32 = 1;
+
+// A verdict that is neither 0 nor 1.
+const WRONG_VERDICT: u32 = 41;
 
 // An event as a host in C hands it over: `Event` with the verdict as a number.
 #[repr(C)]
@@ -62,6 +63,17 @@ fn wrong_verdict(flat: FlatEvent) -> bool
     ((flat.code == codes::SC_HELLO) | (flat.code == codes::SC_DAT)) & (flat.verdict > YES)
 }
 
+// The interface's own refusal of an event, 0 for none.
+fn refused_as(flat: FlatEvent) -> u32
+    ensures { λ r. ⌜ r ≡ refusedAs flat ⌝ }
+{
+    if wrong_verdict(flat) {
+        WRONG_VERDICT
+    } else {
+        refusals::NONE
+    }
+}
+
 // The record of a new connection.
 #[no_mangle]
 pub extern "C" fn menhotrac_fresh(connection: &mut [u32; 12])
@@ -88,7 +100,7 @@ pub extern "C" fn menhotrac_choose_suites(
     chosen: &mut [u32; 4],
 ) -> u32
     ensures { λ r. ⌜ r ≡ choice (now («our_verifiers» .entry)) (now («peer_provers» .entry)) (now («peer_verifiers» .entry)) (now («our_provers» .entry)) .refusal ⌝ }
-    ensures { λ _. ⌜ now (chosen .exit) ≡ suitesOf (choice (now («our_verifiers» .entry)) (now («peer_provers» .entry)) (now («peer_verifiers» .entry)) (now («our_provers» .entry))) ⌝ }
+    ensures { λ _. ⌜ now (chosen .exit) ≡ chosenOf (choice (now («our_verifiers» .entry)) (now («peer_provers» .entry)) (now («peer_verifiers» .entry)) (now («our_provers» .entry))) ⌝ }
 {
     let choice = choose(our_verifiers, peer_provers, peer_verifiers, our_provers);
     *chosen = numbers_in(choice);
@@ -113,9 +125,9 @@ pub extern "C" fn menhotrac_step(
     ensures { λ _. ⌜ now (actions .exit) ≡ returned (now (connection .entry)) event (now (payload .entry)) (now (cache .entry)) (now («our_verifiers» .entry)) (now («peer_provers» .entry)) (now («peer_verifiers» .entry)) (now («our_provers» .entry)) .actions ⌝ }
     ensures { λ _. ⌜ now (cache .exit) ≡ returned (now (connection .entry)) event (now (payload .entry)) (now (cache .entry)) (now («our_verifiers» .entry)) (now («peer_provers» .entry)) (now («peer_verifiers» .entry)) (now («our_provers» .entry)) .cache ⌝ }
 {
-    let before = record_of(connection);
-    let stepped = step(
-        before,
+    let answer = step_flat(
+        connection,
+        refused_as(event),
         event_of(event),
         payload,
         our_verifiers,
@@ -123,12 +135,7 @@ pub extern "C" fn menhotrac_step(
         peer_verifiers,
         our_provers,
         cache,
+        actions,
     );
-    let outcome = refuse_verdict(wrong_verdict(event), before, stepped);
-    let after = outcome.connection;
-    let orders = outcome.actions;
-    let answer = outcome.answer;
-    *connection = numbers_of(after);
-    *actions = slots_of(orders);
     number_of(answer)
 }

@@ -1,2 +1,4 @@
+mod Also
 mod Cache
 mod Effects
+mod ReadBack

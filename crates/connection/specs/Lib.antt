@@ -1,1 +1,4 @@
 pub mod ByEvent
+pub mod Flat
+pub mod Also
+pub mod Written

@@ -30,10 +30,14 @@ fn live(tag: u32, own: u32) -> bool
 fn handshake_tag(connection: Connection, timer: u32) -> u32
     ensures { λ r. ⌜ r ≡ tagOf connection (named timer) ⌝ }
 {
+    // Read first: chosen among fields, the record would be kept in memory.
+    let h = connection.h;
+    let prover = connection.prover;
+    let verifier = connection.verifier;
     match timer {
-        timers::H => connection.h,
-        timers::HP => connection.prover,
-        _ => connection.verifier,
+        timers::H => h,
+        timers::HP => prover,
+        _ => verifier,
     }
 }
 

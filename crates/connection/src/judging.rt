@@ -1,14 +1,18 @@
 // What becomes of an event: refused, ignored or handled.
 ghost use mathlib.Core.Path.{_≡_};
-ghost use mathlib.Core.Bool.{not};
+ghost use mathlib.Core.Bool.{cond, not};
 ghost use mathlib.Core.List.{_∷_, [], _++_};
+ghost use lib.Dec.{eqb};
 ghost use types.Run.{OneOf};
 ghost use Rattle.connection.specs.ByEvent.{moving, byEvent};
+ghost use Rattle.connection.specs.Written.{Written, decidedAlso};
 ghost use Rattle.record.specs.Limits.{limits};
 ghost use Rattle.protocol.specs.Faults.{firstFault, argumentFaults};
-ghost use Rattle.protocol.specs.Step.{unchanged, decided};
+ghost use Rattle.protocol.specs.Step.{unchanged};
+ghost use Rattle.protocol.specs.declared.Answer.the-variants.{Ignored, Refused};
 ghost use Rattle.record.specs.WellFormed.{wellFormed};
 use crate::condition::holds;
+use crate::flat::put;
 use crate::locking::lock;
 use crate::moves;
 use crate::sheet;
@@ -29,28 +33,52 @@ const MAX_BIT: u32 = 1;
 
 const MAX_HANDLED: u32 = 4_294_967_295;
 
-// The answer, the record and the actions of a call.
-pub(crate) fn decide(connection: Connection, code: u32, input: Input) -> Outcome
-    ensures { λ r. ⌜ r ≡ decided limits connection code input ⌝ }
+// Decides a call and writes the record and the actions after it. `also` is a refusal of the host's interface, 0 for none.
+pub(crate) fn decide(
+    numbers: &mut [u32; 12],
+    slots: &mut [u32; 16],
+    also: u32,
+    connection: Connection,
+    code: u32,
+    input: Input,
+) -> Answer
+    ensures { λ r. ⌜ Written (decidedAlso also connection code input) r (now (numbers .exit)) (now (slots .exit)) ⌝ }
 {
     let fault = lowest_fault(connection, code, input);
     if fault != refusals::NONE {
-        return unmoved(Answer::Refused(fault), connection);
+        return put(numbers, slots, unmoved(Answer::Refused(fault), connection));
     }
     let held = holds(connection, code, input);
     let to = next_state(connection.state, connection.awaiting_ack, code, held);
     if to == IGNORED {
-        return unmoved(Answer::Ignored, connection);
+        return put(numbers, slots, unmoved(ignored_unless(also), connection));
     }
     let handled = connection.handled;
     if handled == MAX_HANDLED {
-        return unmoved(Answer::Refused(refusals::NUMBER_EXHAUSTED), connection);
+        return put(
+            numbers,
+            slots,
+            unmoved(Answer::Refused(refusals::NUMBER_EXHAUSTED), connection),
+        );
+    }
+    if also != refusals::NONE {
+        return put(numbers, slots, unmoved(Answer::Refused(also), connection));
     }
     let number = handled + 1;
     if to == states::CLOSED_LOCKED {
-        return lock(connection, code, input, number);
+        return put(numbers, slots, lock(connection, code, input, number));
     }
-    move_on(connection, code, input, to, number)
+    move_on(numbers, slots, connection, code, input, to, number)
+}
+
+// Ignored, unless the host's interface refuses.
+fn ignored_unless(also: u32) -> Answer
+    ensures { λ r. ⌜ r ≡ cond (eqb also 0) Ignored (Refused also) ⌝ }
+{
+    if also != refusals::NONE {
+        return Answer::Refused(also);
+    }
+    Answer::Ignored
 }
 
 // Refused or ignored: the same record, no actions.
@@ -93,33 +121,101 @@ fn lowest_fault(connection: Connection, code: u32, input: Input) -> u32
 }
 
 // A handled event that doesn't lock.
-fn move_on(connection: Connection, code: u32, input: Input, to: u32, number: u32) -> Outcome
+fn move_on(
+    numbers: &mut [u32; 12],
+    slots: &mut [u32; 16],
+    connection: Connection,
+    code: u32,
+    input: Input,
+    to: u32,
+    number: u32,
+) -> Answer
     requires { ⌜ OneOf moving code ⌝ }
-    ensures { λ r. ⌜ r ≡ byEvent number connection code input to ⌝ }
+    ensures { λ r. ⌜ Written (byEvent number connection code input to) r (now (numbers .exit)) (now (slots .exit)) ⌝ }
 {
     match code {
-        codes::UPPER_START_HANDSHAKE => moves::start_handshake(connection, input, to, number),
-        codes::UPPER_SEND_DATA => moves::send_data(connection, input, to, number),
+        codes::UPPER_START_HANDSHAKE => put(
+            numbers,
+            slots,
+            moves::start_handshake(connection, input, to, number),
+        ),
+        codes::UPPER_SEND_DATA => put(
+            numbers,
+            slots,
+            moves::send_data(connection, input, to, number),
+        ),
         codes::UPPER_RE_RA | codes::RA_TIMEOUT => {
-            moves::verify_again(connection, code, input, to, number)
+            put(
+                numbers,
+                slots,
+                moves::verify_again(connection, code, input, to, number),
+            )
         }
-        codes::RA_VERIFIER_OK => moves::verifier_ok(connection, input, to, number),
-        codes::RA_PROVER_OK => moves::prover_ok(connection, input, to, number),
+        codes::RA_VERIFIER_OK => put(
+            numbers,
+            slots,
+            moves::verifier_ok(connection, input, to, number),
+        ),
+        codes::RA_PROVER_OK => put(
+            numbers,
+            slots,
+            moves::prover_ok(connection, input, to, number),
+        ),
         codes::RA_VERIFIER_MSG | codes::RA_PROVER_MSG => {
-            moves::send_report(connection, code, input, to, number)
+            put(
+                numbers,
+                slots,
+                moves::send_report(connection, code, input, to, number),
+            )
         }
-        codes::SC_HELLO => moves::open_connection(connection, input, to, number),
-        codes::SC_DAT => moves::renew_token(connection, input, to, number),
+        codes::SC_HELLO => put(
+            numbers,
+            slots,
+            moves::open_connection(connection, input, to, number),
+        ),
+        codes::SC_DAT => put(
+            numbers,
+            slots,
+            moves::renew_token(connection, input, to, number),
+        ),
         codes::SC_DAT_EXPIRED | codes::SC_RE_RA => {
-            moves::prove_again(connection, code, input, to, number)
+            put(
+                numbers,
+                slots,
+                moves::prove_again(connection, code, input, to, number),
+            )
         }
         // One arm each: as one they would compile to a range, and `_` to two parts.
-        codes::SC_RA_PROVER => moves::pass_on(connection, code, input, to, number),
-        codes::SC_RA_VERIFIER => moves::pass_on(connection, code, input, to, number),
-        codes::SC_DATA => moves::receive_data(connection, input, to, number),
-        codes::SC_ACK => moves::receive_ack(connection, input, to, number),
-        codes::DAT_TIMEOUT => moves::expire_token(connection, input, to, number),
+        codes::SC_RA_PROVER => put(
+            numbers,
+            slots,
+            moves::pass_on(connection, code, input, to, number),
+        ),
+        codes::SC_RA_VERIFIER => put(
+            numbers,
+            slots,
+            moves::pass_on(connection, code, input, to, number),
+        ),
+        codes::SC_DATA => put(
+            numbers,
+            slots,
+            moves::receive_data(connection, input, to, number),
+        ),
+        codes::SC_ACK => put(
+            numbers,
+            slots,
+            moves::receive_ack(connection, input, to, number),
+        ),
+        codes::DAT_TIMEOUT => put(
+            numbers,
+            slots,
+            moves::expire_token(connection, input, to, number),
+        ),
         // ACK_TIMEOUT: no other event moves on.
-        _ => moves::repeat_data(connection, input, to, number),
+        _ => put(
+            numbers,
+            slots,
+            moves::repeat_data(connection, input, to, number),
+        ),
     }
 }

@@ -7,10 +7,13 @@ ghost use Rattle.record.specs.Limits.{limits};
 ghost use Rattle.protocol.specs.Block.{partOf};
 ghost use Rattle.event.specs.Call.{callOf};
 ghost use Rattle.protocol.specs.Step.{refusalNumber, refusalOf, resultOf};
+ghost use Rattle.connection.specs.Also.{resultAlso};
+ghost use Rattle.connection.specs.Flat.{numbersOf, recordIn, slotsOf};
 ghost use lib.ListN.{length};
 
 mod block;
 mod condition;
+pub mod flat;
 mod judging;
 mod locking;
 mod moves;
@@ -18,6 +21,10 @@ mod sheet;
 
 use crate::block::front;
 use crate::block::store;
+use crate::flat::actions_in;
+use crate::flat::numbers_of;
+use crate::flat::record_in;
+use crate::flat::slots_of;
 use crate::judging::decide;
 pub use crate::sheet::NO_ACTIONS;
 pub use event::Event;
@@ -59,6 +66,46 @@ pub fn step(
     ensures { λ r. ⌜ refusalNumber (r .answer) ≡ refusalOf limits connection (callOf event (now (payload .entry)) (now («our_verifiers» .entry)) (now («peer_provers» .entry)) (now («peer_verifiers» .entry)) (now («our_provers» .entry))) (length (now (cache .entry))) ⌝ }
     ensures { λ _. ⌜ now (cache .exit) ≡ resultOf limits connection (callOf event (now (payload .entry)) (now («our_verifiers» .entry)) (now («peer_provers» .entry)) (now («peer_verifiers» .entry)) (now («our_provers» .entry))) (now (cache .entry)) .cache ⌝ }
 {
+    let mut numbers = numbers_of(connection);
+    let mut slots = slots_of(NO_ACTIONS);
+    let answer = step_flat(
+        &mut numbers,
+        refusals::NONE,
+        event,
+        payload,
+        our_verifiers,
+        peer_provers,
+        peer_verifiers,
+        our_provers,
+        cache,
+        &mut slots,
+    );
+    Outcome {
+        answer,
+        connection: record_in(&numbers),
+        actions: actions_in(&slots),
+    }
+}
+
+// One step on a record that is lent in numbers; it writes the actions in numbers too. `also` is a refusal of the host's
+// interface, 0 for none: it is given where the step refuses nothing.
+pub fn step_flat(
+    numbers: &mut [u32; 12],
+    also: u32,
+    event: Event,
+    payload: &[u8],
+    our_verifiers: &[u32],
+    peer_provers: &[u32],
+    peer_verifiers: &[u32],
+    our_provers: &[u32],
+    cache: &mut [u8],
+    slots: &mut [u32; 16],
+) -> Answer
+    ensures { λ r. ⌜ r ≡ resultAlso also (recordIn (now (numbers .entry))) (callOf event (now (payload .entry)) (now («our_verifiers» .entry)) (now («peer_provers» .entry)) (now («peer_verifiers» .entry)) (now («our_provers» .entry))) (now (cache .entry)) .outcome .answer ⌝ }
+    ensures { λ _. ⌜ now (numbers .exit) ≡ numbersOf (resultAlso also (recordIn (now (numbers .entry))) (callOf event (now (payload .entry)) (now («our_verifiers» .entry)) (now («peer_provers» .entry)) (now («peer_verifiers» .entry)) (now («our_provers» .entry))) (now (cache .entry)) .outcome .connection) ⌝ }
+    ensures { λ _. ⌜ now (slots .exit) ≡ slotsOf (resultAlso also (recordIn (now (numbers .entry))) (callOf event (now (payload .entry)) (now («our_verifiers» .entry)) (now («peer_provers» .entry)) (now («peer_verifiers» .entry)) (now («our_provers» .entry))) (now (cache .entry)) .outcome .actions) ⌝ }
+    ensures { λ _. ⌜ now (cache .exit) ≡ resultAlso also (recordIn (now (numbers .entry))) (callOf event (now (payload .entry)) (now («our_verifiers» .entry)) (now («peer_provers» .entry)) (now («peer_verifiers» .entry)) (now («our_provers» .entry))) (now (cache .entry)) .cache ⌝ }
+{
     let code = event.code;
     let suites = choose_suites(
         code,
@@ -68,15 +115,15 @@ pub fn step(
         our_provers,
     );
     let input = read(event, payload.len(), cache.len(), suites);
-    let outcome = decide(connection, code, input);
-    let answer = outcome.answer;
+    let connection = record_in(numbers);
+    let answer = decide(numbers, slots, also, connection, code, input);
     let Answer::Handled = answer else {
-        return outcome;
+        return answer;
     };
     if code == codes::UPPER_SEND_DATA {
         store(cache, payload);
     }
-    outcome
+    answer
 }
 
 // The payload part of a call's actions: of the event's payload, or of the cache as the step left it.

@@ -1,6 +1,8 @@
 // What the step reads of a call's arguments: an event is opened by its kind, which its code fixes,
 // and a field is read only from the kind that carries it.
 ghost use mathlib.Core.Path.{_≡_};
+ghost use mathlib.Core.Bool.{_&&_};
+ghost use lib.Dec.{ltb};
 ghost use Rattle.record.specs.Limits.{limits};
 ghost use Rattle.event.specs.Kind.{kindOf, fieldsOf};
 ghost use Rattle.event.specs.Call.{chosenSuites, suitesOf, carriesPayload, shortLength, inputBy};
@@ -236,6 +238,16 @@ fn short_len(len: usize) -> u32
     if len > MAX_PAYLOAD { 0 } else { len as u32 }
 }
 
+// Whether an event carries a payload that is too long.
+fn payload_too_long(code: u32, len: usize) -> bool
+    ensures { λ r. ⌜ r ≡ (carriesPayload code && ltb (limits .payload) len) ⌝ }
+{
+    if len <= MAX_PAYLOAD {
+        return false;
+    }
+    carries_payload(code)
+}
+
 // What the step reads of a call.
 pub fn read(event: Event, payload_len: usize, cache_len: usize, suites: Suites) -> Input
     ensures { λ r. ⌜ r ≡ inputBy limits event «payload_len» «cache_len» suites ⌝ }
@@ -249,7 +261,7 @@ pub fn read(event: Event, payload_len: usize, cache_len: usize, suites: Suites) 
         good: seconds > 0,
         seconds,
         payload_len: short_len(payload_len),
-        payload_too_long: carries_payload(event.code) & (payload_len > MAX_PAYLOAD),
+        payload_too_long: payload_too_long(event.code, payload_len),
         cache_too_short: cache_len < MAX_PAYLOAD,
         suites,
     }

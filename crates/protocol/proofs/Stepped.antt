@@ -115,7 +115,8 @@ unrefused limits connection call cache e =
       room = λ s. other-fails (not (eqb (next limits connection call cache) table.ignored)) (eqb (connection .handled) (limits .handled)) (last .1 .0) (subst⁻¹ (λ (b : Bool). T (not b)) s tt);
     }
 
-never-refused : (n : ℕ) → Refused n ≡ Handled → ⊥
+-- A refused call is not handled.
+pub never-refused : (n : ℕ) → Refused n ≡ Handled → ⊥
 never-refused n e = let z : _≡_ {A = ℕ} 0 1 = cc in omega arith
 
 -- A handled call is not refused.

@@ -8,10 +8,12 @@ use borrow.Author.Needs.{needs}
 use borrow.Author.Tests.{eq-eqb, ne-eqb, ltb-false, not-false}
 use Rattle.record.specs.Limits.{limits}
 use Rattle.protocol.specs.Condition.{nextState}
-use Rattle.protocol.specs.Step.{handledTo, decided}
+use Rattle.protocol.specs.Step.{handledTo, decided, unchanged}
+use Rattle.protocol.specs.declared.Answer.{Answer}
 use Rattle.table.specs.Table.{cell, settled}
 use Rattle.record.specs.WellFormed.{wellFormed}
 use Rattle.protocol.proofs.Decided as judged
+use Rattle.connection.proofs.Also.{as-written, refused-also, ignored-also, refused-by-also, handled-also}
 use Rattle.connection.proofs.Effects.{is-moving, by-event, by-locking}
 use Rattle.connection.proofs.judging.decide.Statement.{statement}
 use Rattle.connection.proofs.judging.decide.Tie as tie
@@ -23,26 +25,35 @@ next-is c = let a = c .before .before .before .before .args in c .next-state .en
 
 returns : tie.Need-returns
 returns c =
-    let a = c .before .before .before .args in
-    let low = c .before .before .lowest-fault in
-    c .unmoved .ensures ∙
-    judged.refused limits (a .connection) (a .code) (a .input) (low .result) _ _ (low .ensures) refl refl (ne-eqb (low .result) 0 (c .before .if1 .taken))
+    let low = c .before .before .before .before .before .lowest-fault in
+    let a = c .before .before .before .before .before .before .args in
+    let some = ne-eqb (low .result) 0 (c .before .before .before .before .if1 .taken) in
+    as-written _ _ _ _ _
+    (c .before .unmoved .ensures ∙
+    refused-also (a .also) (a .connection) (a .code) (a .input) (low .result) some (judged.refused limits (a .connection) (a .code) (a .input) (low .result) _ _ (low .ensures) refl refl some))
+    (c .put .ensures)
 
 returns-2 : tie.Need-returns-2
 returns-2 c =
-    let n = c .before .before in
+    let n = c .before .before .before .before .before .before in
     let a = n .before .before .before .before .args in
     let low = n .before .before .before .lowest-fault in
-    c .unmoved2 .ensures ∙
-    judged.ignored limits (a .connection) (a .code) (a .input) (low .result) (n .next-state .result) _ (low .ensures) (next-is n) refl (n .before .before .if1 .left) (c .before .if2 .taken)
+    as-written _ _ _ _ _
+    (c .before .unmoved2 .ensures ∙ ap (λ (x : Answer). unchanged x (a .connection)) (c .before .before .ignored-unless .ensures) ∙
+    ignored-also (a .also) (a .connection) (a .code) (a .input)
+    (judged.ignored limits (a .connection) (a .code) (a .input) (low .result) (n .next-state .result) _ (low .ensures) (next-is n) refl (n .before .before .if1 .left) (c .before .before .before .before .before .if2 .taken)))
+    (c .put2 .ensures)
 
 returns-3 : tie.Need-returns-3
 returns-3 c =
-    let n = c .before .before .before in
+    let n = c .before .before .before .before .before .before in
     let a = n .before .before .before .before .args in
     let low = n .before .before .before .lowest-fault in
-    c .unmoved3 .ensures ∙
-    judged.refused-full limits (a .connection) (a .code) (a .input) (low .result) (n .next-state .result) true (low .ensures) (next-is n) (eq-eqb (a .connection .handled) 4294967295 (c .before .if3 .taken)) (n .before .before .if1 .left) (ne-eqb (n .next-state .result) 11 (c .before .before .if2 .left)) refl
+    as-written _ _ _ _ _
+    (c .before .unmoved3 .ensures ∙
+    refused-also (a .also) (a .connection) (a .code) (a .input) 8 refl
+    (judged.refused-full limits (a .connection) (a .code) (a .input) (low .result) (n .next-state .result) true (low .ensures) (next-is n) (eq-eqb (a .connection .handled) 4294967295 (c .before .before .before .before .if3 .taken)) (n .before .before .if1 .left) (ne-eqb (n .next-state .result) 11 (c .before .before .before .before .before .if2 .left)) refl))
+    (c .put3 .ensures)
 
 -- Where no lower fault is present, the code is known and the record is well formed.
 known : (n : tie.After-next-state) → n .before .before .before .before .args .code < 24
@@ -69,24 +80,38 @@ goes e =
 
 returns-4 : tie.Need-returns-4
 returns-4 c =
-    let e = c .before .before in
+    let e = c .before .before .before .before .before in
     let a = e .before .before .before .before .before .before .args in
-    c .lock .ensures ∙ by-locking (a .connection) (a .code) (a .input) ∙
-    ap (λ (t : ℕ). handledTo t (a .connection) (a .code) (a .input)) (sym (c .before .if4 .taken)) ∙ goes e
-
-move-on-requires : tie.Need-move-on-requires
-move-on-requires c κs =
-    let n = c .before .before .before in
-    let a = n .before .before .before .before .args in
-    is-moving limits (a .connection) (a .code) (a .input) (n .next-state .result) (well n) (known n) (sym (next-is n)) (ne-eqb (n .next-state .result) 11 (c .before .before .if2 .left)) (ne-eqb (n .next-state .result) 9 (c .if4 .left))
+    as-written _ _ _ _ _
+    (c .before .unmoved4 .ensures ∙
+    refused-by-also (a .also) (a .connection) (a .code) (a .input) (e .before .before .next-state .result) (goes e) (ne-eqb (a .also) 0 (c .before .before .before .before .if4 .taken)))
+    (c .put4 .ensures)
 
 returns-5 : tie.Need-returns-5
 returns-5 c =
-    let n = c .before .before .before .before in
+    let e = c .before .before .before .before .before .before in
+    let a = e .before .before .before .before .before .before .args in
+    as-written _ _ _ _ _
+    (c .before .lock .ensures ∙ by-locking (a .connection) (a .code) (a .input) ∙
+    ap (λ (t : ℕ). handledTo t (a .connection) (a .code) (a .input)) (sym (c .before .before .before .before .if5 .taken)) ∙
+    handled-also (a .also) (a .connection) (a .code) (a .input) (e .before .before .next-state .result) (goes e) (c .before .before .before .before .before .if4 .left))
+    (c .put5 .ensures)
+
+move-on-requires : tie.Need-move-on-requires
+move-on-requires c κs =
+    let n = c .before .before .before .before .before .before in
     let a = n .before .before .before .before .args in
-    c .move-on .ensures ∙
-    by-event limits (a .connection) (a .code) (a .input) (n .next-state .result) (well n) (known n) (sym (next-is n)) (ne-eqb (n .next-state .result) 11 (c .before .before .before .if2 .left)) (ne-eqb (n .next-state .result) 9 (c .before .if4 .left)) ∙
-    goes (c .before .before)
+    is-moving limits (a .connection) (a .code) (a .input) (n .next-state .result) (well n) (known n) (sym (next-is n)) (ne-eqb (n .next-state .result) 11 (c .before .before .before .before .before .if2 .left)) (ne-eqb (n .next-state .result) 9 (c .before .before .if5 .left))
+
+returns-6 : tie.Need-returns-6
+returns-6 c =
+    let e = c .before .before .before .before .before in
+    let n = e .before .before in
+    let a = n .before .before .before .before .args in
+    as-written _ _ _ _ _
+    (by-event limits (a .connection) (a .code) (a .input) (n .next-state .result) (well n) (known n) (sym (next-is n)) (ne-eqb (n .next-state .result) 11 (e .before .if2 .left)) (ne-eqb (n .next-state .result) 9 (c .before .before .before .if5 .left)) ∙
+    handled-also (a .also) (a .connection) (a .code) (a .input) (n .next-state .result) (goes e) (c .before .before .before .before .if4 .left))
+    (c .move-on .ensures)
 
 pub decide-spec : {M : Type 1} → statement M
 decide-spec =
@@ -94,15 +119,23 @@ decide-spec =
     (tie.spec
     (λ c κs. search needs)
     (λ c κs. search needs)
+    (λ c κs. search needs)
     returns
+    (λ c κs. search needs)
+    (λ c κs. search needs)
     (λ c κs. search needs)
     (λ c κs. search needs)
     (λ c κs. search needs)
     returns-2
     (λ c κs. search needs)
+    (λ c κs. search needs)
     returns-3
-    (λ c. search needs)
+    (λ c κs. search needs)
     (λ c κs. search needs)
     returns-4
+    (λ c. search needs)
+    (λ c κs. search needs)
+    (λ c κs. search needs)
+    returns-5
     move-on-requires
-    returns-5)
+    returns-6)

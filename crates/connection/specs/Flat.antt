@@ -1,9 +1,9 @@
--- Record, order sheet and suite choice as a host in C holds them: numbers in a fixed order.
+-- Record and order sheet as a host in C holds them: numbers in a fixed order.
 use Prim.Native.Nat.{ℕ}
 use mathlib.Core.Bool.{Bool, cond}
 use mathlib.Core.List.{List, [], _∷_}
+use lib.Dec.{eqb}
 use lib.ListN.{getD}
-use Rattle.suites.specs.Answer.{Answer}
 use Rattle.protocol.specs.declared.Actions.{Actions}
 use Rattle.record.specs.declared.Connection.{Connection}
 
@@ -29,8 +29,8 @@ numbersOf connection =
     ∷ []
 
 -- The record that twelve numbers are.
-abbrev pub recordOf : List ℕ → Connection
-recordOf numbers = record {
+abbrev pub recordIn : List ℕ → Connection
+recordIn numbers = record {
   state = getD numbers 0 0;
   «awaiting_ack» = getD numbers 1 0;
   «next_send_bit» = getD numbers 2 0;
@@ -66,7 +66,23 @@ slotsOf actions =
     ∷ actions .«payload_len»
     ∷ []
 
--- Of a suite choice: whether the verifier's suite was found, that suite, and both for the prover's.
-abbrev pub suitesOf : Answer → List ℕ
-suitesOf answer =
-    bitOf (answer .verifier .found) ∷ answer .verifier .suite ∷ bitOf (answer .prover .found) ∷ answer .prover .suite ∷ []
+-- The order sheet that sixteen numbers are.
+abbrev pub actionsIn : List ℕ → Actions
+actionsIn slots = record {
+  message = getD slots 0 0;
+  prover = getD slots 1 0;
+  verifier = getD slots 2 0;
+  h = getD slots 3 0;
+  hp = getD slots 4 0;
+  hv = getD slots 5 0;
+  dat = getD slots 6 0;
+  ra = getD slots 7 0;
+  ack = getD slots 8 0;
+  «dat_seconds» = getD slots 9 0;
+  bit = getD slots 10 0;
+  deliver = eqb (getD slots 11 0) 1;
+  «verifier_suite» = getD slots 12 0;
+  «prover_suite» = getD slots 13 0;
+  «payload_slice» = getD slots 14 0;
+  «payload_len» = getD slots 15 0;
+}

@@ -1,0 +1,33 @@
+-- What a host in C gets for a call.
+use Prim.Native.Nat.{ℕ}
+use mathlib.Core.List.{List}
+use Rattle.connection.specs.Also.{resultAlso}
+use Rattle.connection.specs.Flat.{numbersOf, recordIn, slotsOf}
+use Rattle.event.specs.Call.{callOf}
+use Rattle.protocol.specs.Step.{Result}
+use Rattle.capi.specs.Answer.{answerNumber}
+use Rattle.capi.specs.Verdict.{refusedAs, eventOf}
+use Rattle.capi.specs.declared.FlatEvent.{FlatEvent}
+
+-- Answer, record, order sheet, cache and payload part in numbers.
+pub record Returned : Type 0 where
+  pub answer : ℕ
+  pub connection : List ℕ
+  pub actions : List ℕ
+  pub cache : List ℕ
+  pub part : List ℕ
+
+-- A result in numbers.
+abbrev pub returnedOf : Result → Returned
+returnedOf result = record {
+  answer = answerNumber (result .outcome .answer);
+  connection = numbersOf (result .outcome .connection);
+  actions = slotsOf (result .outcome .actions);
+  cache = result .cache;
+  part = result .part;
+}
+
+-- What a call returns, by the arguments of `menhotrac_step`: the step's result; where the step refuses nothing, a wrong verdict is refused.
+unfoldable pub returned : (connection : List ℕ) → FlatEvent → (payload cache ourVerifiers peerProvers peerVerifiers ourProvers : List ℕ) → Returned
+returned connection flat payload cache ourVerifiers peerProvers peerVerifiers ourProvers =
+    returnedOf (resultAlso (refusedAs flat) (recordIn connection) (callOf (eventOf flat) payload ourVerifiers peerProvers peerVerifiers ourProvers) cache)
