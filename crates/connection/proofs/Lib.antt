@@ -1,4 +1,3 @@
 mod Also
 mod Cache
-mod Effects
 mod ReadBack

@@ -1,4 +1,3 @@
-pub mod ByEvent
 pub mod Flat
 pub mod Also
 pub mod Written

@@ -3,8 +3,6 @@ ghost use mathlib.Core.Path.{_≡_};
 ghost use mathlib.Core.Bool.{cond, not};
 ghost use mathlib.Core.List.{_∷_, [], _++_};
 ghost use lib.Dec.{eqb};
-ghost use types.Run.{OneOf};
-ghost use Rattle.connection.specs.ByEvent.{moving, byEvent};
 ghost use Rattle.connection.specs.Written.{Written, decidedAlso};
 ghost use Rattle.record.specs.Limits.{limits};
 ghost use Rattle.protocol.specs.Faults.{firstFault, argumentFaults};
@@ -13,14 +11,13 @@ ghost use Rattle.protocol.specs.declared.Answer.the-variants.{Ignored, Refused}
 ghost use Rattle.record.specs.WellFormed.{wellFormed};
 use crate::condition::holds;
 use crate::flat::put;
-use crate::locking::lock;
-use crate::moves;
-use crate::sheet;
+use crate::moving::move_on;
 use event::Input;
 use event::timers;
+use moves::NO_ACTIONS;
+use moves::lock;
 use protocol::Answer;
 use protocol::Outcome;
-use protocol::orders;
 use protocol::refusals;
 use record::Connection;
 use record::well_formed;
@@ -88,7 +85,7 @@ fn unmoved(answer: Answer, connection: Connection) -> Outcome
     Outcome {
         answer,
         connection,
-        actions: sheet::NO_ACTIONS,
+        actions: NO_ACTIONS,
     }
 }
 
@@ -118,104 +115,4 @@ fn lowest_fault(connection: Connection, code: u32, input: Input) -> u32
         return refusals::NOT_WELL_FORMED;
     }
     refusals::NONE
-}
-
-// A handled event that doesn't lock.
-fn move_on(
-    numbers: &mut [u32; 12],
-    slots: &mut [u32; 16],
-    connection: Connection,
-    code: u32,
-    input: Input,
-    to: u32,
-    number: u32,
-) -> Answer
-    requires { ⌜ OneOf moving code ⌝ }
-    ensures { λ r. ⌜ Written (byEvent number connection code input to) r (now (numbers .exit)) (now (slots .exit)) ⌝ }
-{
-    match code {
-        codes::UPPER_START_HANDSHAKE => put(
-            numbers,
-            slots,
-            moves::start_handshake(connection, input, to, number),
-        ),
-        codes::UPPER_SEND_DATA => put(
-            numbers,
-            slots,
-            moves::send_data(connection, input, to, number),
-        ),
-        codes::UPPER_RE_RA | codes::RA_TIMEOUT => {
-            put(
-                numbers,
-                slots,
-                moves::verify_again(connection, code, input, to, number),
-            )
-        }
-        codes::RA_VERIFIER_OK => put(
-            numbers,
-            slots,
-            moves::verifier_ok(connection, input, to, number),
-        ),
-        codes::RA_PROVER_OK => put(
-            numbers,
-            slots,
-            moves::prover_ok(connection, input, to, number),
-        ),
-        codes::RA_VERIFIER_MSG | codes::RA_PROVER_MSG => {
-            put(
-                numbers,
-                slots,
-                moves::send_report(connection, code, input, to, number),
-            )
-        }
-        codes::SC_HELLO => put(
-            numbers,
-            slots,
-            moves::open_connection(connection, input, to, number),
-        ),
-        codes::SC_DAT => put(
-            numbers,
-            slots,
-            moves::renew_token(connection, input, to, number),
-        ),
-        codes::SC_DAT_EXPIRED | codes::SC_RE_RA => {
-            put(
-                numbers,
-                slots,
-                moves::prove_again(connection, code, input, to, number),
-            )
-        }
-        // One arm each: as one they would compile to a range, and `_` to two parts.
-        codes::SC_RA_PROVER => put(
-            numbers,
-            slots,
-            moves::pass_on(connection, code, input, to, number),
-        ),
-        codes::SC_RA_VERIFIER => put(
-            numbers,
-            slots,
-            moves::pass_on(connection, code, input, to, number),
-        ),
-        codes::SC_DATA => put(
-            numbers,
-            slots,
-            moves::receive_data(connection, input, to, number),
-        ),
-        codes::SC_ACK => put(
-            numbers,
-            slots,
-            moves::receive_ack(connection, input, to, number),
-        ),
-        codes::DAT_TIMEOUT => put(
-            numbers,
-            slots,
-            moves::expire_token(connection, input, to, number),
-        ),
-        // ACK_TIMEOUT: no other event moves on.
-        _ => put(
-            numbers,
-            slots,
-            moves::repeat_data(connection, input, to, number),
-        ),
-    }
 }

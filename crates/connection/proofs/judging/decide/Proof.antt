@@ -14,7 +14,7 @@ use Rattle.table.specs.Table.{cell, settled}
 use Rattle.record.specs.WellFormed.{wellFormed}
 use Rattle.protocol.proofs.Decided as judged
 use Rattle.connection.proofs.Also.{as-written, refused-also, ignored-also, refused-by-also, handled-also}
-use Rattle.connection.proofs.Effects.{is-moving, by-event, by-locking}
+use Rattle.moves.proofs.Effects.{is-moving, by-event, by-locking}
 use Rattle.connection.proofs.judging.decide.Statement.{statement}
 use Rattle.connection.proofs.judging.decide.Tie as tie
 

@@ -1,0 +1,93 @@
+// A handled event that doesn't lock: each arm writes what its event does.
+ghost use types.Run.{OneOf};
+ghost use Rattle.moves.specs.ByEvent.{byEvent, moving};
+ghost use Rattle.connection.specs.Written.{Written};
+use crate::flat::put;
+use event::Input;
+use moves::expire_token;
+use moves::open_connection;
+use moves::pass_on;
+use moves::prove_again;
+use moves::prover_ok;
+use moves::receive_ack;
+use moves::receive_data;
+use moves::renew_token;
+use moves::repeat_data;
+use moves::send_data;
+use moves::send_report;
+use moves::start_handshake;
+use moves::verifier_ok;
+use moves::verify_again;
+use protocol::Answer;
+use record::Connection;
+use table::codes::DAT_TIMEOUT;
+use table::codes::RA_PROVER_MSG;
+use table::codes::RA_PROVER_OK;
+use table::codes::RA_TIMEOUT;
+use table::codes::RA_VERIFIER_MSG;
+use table::codes::RA_VERIFIER_OK;
+use table::codes::SC_ACK;
+use table::codes::SC_DAT;
+use table::codes::SC_DAT_EXPIRED;
+use table::codes::SC_DATA;
+use table::codes::SC_HELLO;
+use table::codes::SC_RA_PROVER;
+use table::codes::SC_RA_VERIFIER;
+use table::codes::SC_RE_RA;
+use table::codes::UPPER_RE_RA;
+use table::codes::UPPER_SEND_DATA;
+use table::codes::UPPER_START_HANDSHAKE;
+
+pub(crate) fn move_on(
+    numbers: &mut [u32; 12],
+    slots: &mut [u32; 16],
+    before: Connection,
+    code: u32,
+    input: Input,
+    to: u32,
+    number: u32,
+) -> Answer
+    requires { ⌜ OneOf moving code ⌝ }
+    ensures { λ r. ⌜ Written (byEvent number before code input to) r (now (numbers .exit)) (now (slots .exit)) ⌝ }
+{
+    match code {
+        UPPER_START_HANDSHAKE => put(numbers, slots, start_handshake(before, input, to, number)),
+        UPPER_SEND_DATA => put(numbers, slots, send_data(before, input, to, number)),
+        UPPER_RE_RA | RA_TIMEOUT => {
+            let asked = code == UPPER_RE_RA;
+            put(
+                numbers,
+                slots,
+                verify_again(before, asked, input, to, number),
+            )
+        }
+        RA_VERIFIER_OK => put(numbers, slots, verifier_ok(before, input, to, number)),
+        RA_PROVER_OK => put(numbers, slots, prover_ok(before, input, to, number)),
+        RA_VERIFIER_MSG | RA_PROVER_MSG => {
+            let of_verifier = code == RA_VERIFIER_MSG;
+            put(
+                numbers,
+                slots,
+                send_report(before, of_verifier, input, to, number),
+            )
+        }
+        SC_HELLO => put(numbers, slots, open_connection(before, input, to, number)),
+        SC_DAT => put(numbers, slots, renew_token(before, input, to, number)),
+        SC_DAT_EXPIRED | SC_RE_RA => {
+            let expired = code == SC_DAT_EXPIRED;
+            put(
+                numbers,
+                slots,
+                prove_again(before, expired, input, to, number),
+            )
+        }
+        // One arm each: as one they would compile to a range, and `_` to two parts.
+        SC_RA_PROVER => put(numbers, slots, pass_on(before, true, input, to, number)),
+        SC_RA_VERIFIER => put(numbers, slots, pass_on(before, false, input, to, number)),
+        SC_DATA => put(numbers, slots, receive_data(before, input, to, number)),
+        SC_ACK => put(numbers, slots, receive_ack(before, input, to, number)),
+        DAT_TIMEOUT => put(numbers, slots, expire_token(before, input, to, number)),
+        // ACK_TIMEOUT: no other event moves on.
+        _ => put(numbers, slots, repeat_data(before, input, to, number)),
+    }
+}

@@ -1,0 +1,12 @@
+-- `moves::prove_again` meets its contract.
+use mathlib.Core.Logic.{inl, inr}
+use borrow.Author.Needs.{needs}
+use Rattle.moves.proofs.Effects.{true-or-false}
+use Rattle.moves.proofs.prove_again.Statement.{statement}
+use Rattle.moves.proofs.prove_again.Tie as tie
+
+returns : tie.Need-returns
+returns c = elim (true-or-false (c .before .before .args .expired)) [ inl e ↦ rw (c .cancel .ensures, c .before .pick .ensures, e) | inr e ↦ rw (c .cancel .ensures, c .before .pick .ensures, e) ]
+
+pub prove-again-spec : {M : Type 1} → statement M
+prove-again-spec = tie.close (tie.spec (λ c κs. search needs) (λ c κs. search needs) returns)
