@@ -1,0 +1,814 @@
+/*
+ * The C face of the archive under test: every refusal, the worked cases of document 01 for tokens
+ * and suites, its limits, and a block that is sent and repeated. Guard bytes lie around everything
+ * that a call may write.
+ */
+#include <stdio.h>
+#include <stdlib.h>
+#include <string.h>
+
+#include "menhotrac.h"
+
+enum {
+    GUARD = 32,
+    FILLER = 0xa5,
+    FULL = MENHOTRAC_MIN_CACHE,
+    BLOCK = 5
+};
+
+#define COUNT(array) (sizeof(array) / sizeof *(array))
+#define LIST(suites) {(suites), COUNT(suites)}
+#define CHECK(holds) check((holds), #holds, __LINE__)
+
+static unsigned long checks;
+static const char *running = "start";
+
+static void check(int holds, const char *what, int line)
+{
+    checks++;
+    if (!holds) {
+        fprintf(stderr, "%s:%d: %s: %s is wrong\n", __FILE__, line, running, what);
+        exit(EXIT_FAILURE);
+    }
+}
+
+/* ---- What calls are made with ---- */
+
+static const menhotrac_connection fresh = {.state = MENHOTRAC_STATE_CLOSED_UNLOCKED};
+static const menhotrac_connection greeted = {
+    .state = MENHOTRAC_STATE_WAIT_FOR_HELLO, .handled = 1, .h = 1
+};
+static const menhotrac_connection greeted_at_limit = {
+    .state = MENHOTRAC_STATE_WAIT_FOR_HELLO, .handled = UINT32_MAX, .h = 1
+};
+static const menhotrac_connection both_run = {
+    .state = MENHOTRAC_STATE_WAIT_FOR_RA, .handled = 9, .prover = 7, .verifier = 8, .dat = 2
+};
+static const menhotrac_connection expired = {
+    .state = MENHOTRAC_STATE_WAIT_FOR_DAT_AND_RA_VERIFIER, .handled = 9, .h = 9
+};
+static const menhotrac_connection ready = {
+    .state = MENHOTRAC_STATE_ESTABLISHED, .handled = 9, .dat = 2, .ra = 4
+};
+static const menhotrac_connection ready_at_limit = {
+    .state = MENHOTRAC_STATE_ESTABLISHED, .handled = UINT32_MAX, .dat = 2, .ra = 4
+};
+static const menhotrac_connection ready_without_ra = {
+    .state = MENHOTRAC_STATE_ESTABLISHED, .handled = 9, .dat = 2
+};
+static const menhotrac_connection waiting = {
+    .state = MENHOTRAC_STATE_WAIT_FOR_ACK, .awaiting_ack = 1, .next_send_bit = 1, .cached_len = 3,
+    .handled = 9, .dat = 2, .ra = 4, .ack = 9
+};
+static const menhotrac_connection locked = {
+    .state = MENHOTRAC_STATE_CLOSED_LOCKED, .handled = 9
+};
+
+static const uint8_t block[BLOCK] = {10, 20, 30, 40, 50};
+static const uint8_t too_long[MENHOTRAC_MAX_PAYLOAD + 1];
+static const uint32_t suite_1[] = {1};
+static const uint32_t suite_2[] = {2};
+static const uint32_t suite_3[] = {3};
+static const uint32_t suites_3_7[] = {3, 7};
+static const uint32_t suites_7_3[] = {7, 3};
+static const uint32_t sixteen[] = {2, 3, 4, 5, 6, 7, 8, 9, 10, 11, 12, 13, 14, 15, 16, 1};
+static const uint32_t seventeen[] = {1, 1, 1, 1, 1, 1, 1, 1, 1, 1, 1, 1, 1, 1, 1, 1, 1};
+
+/* A token with a verdict, at the boot run's time. */
+#define TOKEN(number, verdict_given, expires) \
+    {.code = (number), .verdict = (verdict_given), .expiry = (expires), .now = 1000}
+#define HELLO(verdict_given) TOKEN(MENHOTRAC_EVENT_SC_HELLO, (verdict_given), 1060)
+
+/* A connection with all that a call writes; there is no padding. */
+struct bench {
+    uint8_t before[GUARD];
+    menhotrac_connection connection;
+    uint8_t between[GUARD];
+    uint8_t cache[FULL];
+    uint8_t beside[GUARD];
+    menhotrac_actions actions;
+    uint8_t after[GUARD];
+};
+
+static void set_up(struct bench *bench, const menhotrac_connection *connection)
+{
+    memset(bench, FILLER, sizeof *bench);
+    bench->connection = *connection;
+}
+
+static uint32_t step(struct bench *bench, const menhotrac_call *call)
+{
+    return menhotrac_call_step(&bench->connection, call, bench->cache, FULL, &bench->actions);
+}
+
+/* Whether guards and cache are those of `expected`, except for what a sent block changes. */
+static int kept_around(const struct bench *bench, const struct bench *expected, size_t sent)
+{
+    struct bench merged = *expected;
+
+    merged.connection = bench->connection;
+    merged.actions = bench->actions;
+    memcpy(merged.cache, bench->cache, sent);
+    return memcmp(&merged, bench, sizeof merged) == 0;
+}
+
+/* ---- Refused and ignored calls ---- */
+
+typedef uint32_t face(menhotrac_connection *connection, const menhotrac_call *call,
+                      uint8_t *cache, size_t cache_len, menhotrac_actions *actions);
+
+/* The archive without the tests of menhotrac_call_step. */
+static uint32_t bare_step(menhotrac_connection *connection, const menhotrac_call *call,
+                          uint8_t *cache, size_t cache_len, menhotrac_actions *actions)
+{
+    return menhotrac_step(connection, call->event, call->payload, call->payload_len,
+                          cache, cache_len, actions,
+                          call->our_verifiers.suites, call->our_verifiers.len,
+                          call->peer_provers.suites, call->peer_provers.len,
+                          call->peer_verifiers.suites, call->peer_verifiers.len,
+                          call->our_provers.suites, call->our_provers.len);
+}
+
+static face *const faces[] = {bare_step, menhotrac_call_step};
+
+struct unchanged_case {
+    const char *name;
+    uint32_t answer;
+    const menhotrac_connection *connection;
+    size_t cache_len;
+    menhotrac_call call;
+};
+
+static const struct unchanged_case refused[] = {
+    {"code 24", 1, &ready, FULL, {.event = {.code = 24}}},
+    {"the largest code", 1, &ready, FULL, {.event = {.code = UINT32_MAX}}},
+    {"code 24, locked", 1, &locked, FULL, {.event = {.code = 24}}},
+    {"a timer above 2", 2, &both_run, FULL,
+     {.event = {.code = MENHOTRAC_EVENT_HANDSHAKE_TIMEOUT, .tag = 7, .timer = 3}}},
+    {"DATA with bit 2", 3, &ready, FULL, {.event = {.code = MENHOTRAC_EVENT_SC_DATA, .bit = 2}}},
+    {"ACK with bit 2", 3, &waiting, FULL, {.event = {.code = MENHOTRAC_EVENT_SC_ACK, .bit = 2}}},
+    {"cache of 4,095 bytes", 5, &ready, FULL - 1,
+     {.event = {.code = MENHOTRAC_EVENT_UPPER_SEND_DATA}, .payload = block, .payload_len = BLOCK}},
+    {"cache of 0 bytes", 5, &locked, 0, {.event = {.code = MENHOTRAC_EVENT_UPPER_CLOSE}}},
+    {"17 of our verifiers", 6, &greeted, FULL,
+     {.event = HELLO(MENHOTRAC_VERDICT_YES), .our_verifiers = LIST(seventeen)}},
+    {"17 of the peer's provers", 6, &greeted, FULL,
+     {.event = HELLO(MENHOTRAC_VERDICT_YES), .peer_provers = LIST(seventeen)}},
+    {"17 of the peer's verifiers", 6, &locked, FULL,
+     {.event = HELLO(MENHOTRAC_VERDICT_YES), .peer_verifiers = LIST(seventeen)}},
+    {"17 of our provers", 6, &greeted, FULL,
+     {.event = HELLO(MENHOTRAC_VERDICT_YES), .our_provers = LIST(seventeen)}},
+    {"a record that is not well formed", 7, &ready_without_ra, FULL,
+     {.event = {.code = MENHOTRAC_EVENT_UPPER_CLOSE}}},
+    {"the largest number", 8, &ready_at_limit, FULL,
+     {.event = {.code = MENHOTRAC_EVENT_UPPER_SEND_DATA}, .payload = block, .payload_len = BLOCK}},
+    {"hello with verdict 2", 41, &greeted, FULL, {.event = HELLO(2)}},
+    {"token with the largest verdict", 41, &expired, FULL,
+     {.event = TOKEN(MENHOTRAC_EVENT_SC_DAT, UINT32_MAX, 1060)}},
+    {"verdict 2, locked", 41, &locked, FULL, {.event = HELLO(2)}},
+};
+
+static const struct unchanged_case lowest[] = {
+    {"code 24 and short cache", 1, &ready, FULL - 1, {.event = {.code = 24}}},
+    {"bit 2 and payload of 4,097 bytes", 3, &ready, FULL,
+     {.event = {.code = MENHOTRAC_EVENT_SC_DATA, .bit = 2},
+      .payload = too_long, .payload_len = sizeof too_long}},
+    {"payload of 4,097 bytes and short cache", 4, &ready, FULL - 1,
+     {.event = {.code = MENHOTRAC_EVENT_UPPER_SEND_DATA},
+      .payload = too_long, .payload_len = sizeof too_long}},
+    {"short cache and 17 entries", 5, &greeted, FULL - 1,
+     {.event = HELLO(MENHOTRAC_VERDICT_YES), .our_provers = LIST(seventeen)}},
+    {"17 entries and verdict 2", 6, &greeted, FULL,
+     {.event = HELLO(2), .our_provers = LIST(seventeen)}},
+    {"not well formed and verdict 2", 7, &ready_without_ra, FULL, {.event = HELLO(2)}},
+    {"the largest number and verdict 2", 8, &greeted_at_limit, FULL, {.event = HELLO(2)}},
+    {"the largest number, ignored, and verdict 2", 41, &ready_at_limit, FULL, {.event = HELLO(2)}},
+};
+
+static const struct unchanged_case ignored[] = {
+    {"locked", 100, &locked, FULL, {.event = {.code = MENHOTRAC_EVENT_UPPER_CLOSE}}},
+    {"the largest number", 100, &ready_at_limit, FULL,
+     {.event = {.code = MENHOTRAC_EVENT_UPPER_START_HANDSHAKE}}},
+    {"a report with another tag", 100, &both_run, FULL,
+     {.event = {.code = MENHOTRAC_EVENT_RA_PROVER_OK, .tag = 8}}},
+    {"a timeout with tag 0", 100, &ready, FULL,
+     {.event = {.code = MENHOTRAC_EVENT_ACK_TIMEOUT, .tag = 0}}},
+    {"a second block", 100, &waiting, FULL,
+     {.event = {.code = MENHOTRAC_EVENT_UPPER_SEND_DATA}, .payload = block, .payload_len = BLOCK}},
+    {"DATA with the other bit", 100, &ready, FULL,
+     {.event = {.code = MENHOTRAC_EVENT_SC_DATA, .bit = 1},
+      .payload = block, .payload_len = BLOCK}},
+    {"verdict 2 where none is carried", 100, &locked, FULL,
+     {.event = {.code = MENHOTRAC_EVENT_SC_RE_RA, .verdict = 2}}},
+};
+
+/* Record, cache and guards as they were, and all actions 0. */
+static void check_unchanged(const struct unchanged_case *given, face *call)
+{
+    struct bench bench;
+    struct bench expected;
+
+    running = given->name;
+    set_up(&bench, given->connection);
+    expected = bench;
+    memset(&expected.actions, 0, sizeof expected.actions);
+    CHECK(call(&bench.connection, &given->call, bench.cache, given->cache_len, &bench.actions)
+          == given->answer);
+    CHECK(memcmp(&bench, &expected, sizeof bench) == 0);
+}
+
+static void test_unchanged(const struct unchanged_case *cases, size_t count)
+{
+    size_t i;
+    size_t j;
+
+    for (i = 0; i < count; i++) {
+        for (j = 0; j < COUNT(faces); j++)
+            check_unchanged(&cases[i], faces[j]);
+    }
+}
+
+/* Every event that carries a payload refuses 4,097 bytes, also where it would be ignored. */
+static void test_payload_too_long(void)
+{
+    static const uint32_t codes[] = {
+        MENHOTRAC_EVENT_UPPER_SEND_DATA, MENHOTRAC_EVENT_RA_VERIFIER_MSG,
+        MENHOTRAC_EVENT_RA_PROVER_MSG, MENHOTRAC_EVENT_SC_RA_PROVER,
+        MENHOTRAC_EVENT_SC_RA_VERIFIER, MENHOTRAC_EVENT_SC_DATA
+    };
+    struct unchanged_case given = {
+        "payload of 4,097 bytes", MENHOTRAC_REFUSED_PAYLOAD_TOO_LONG, &ready, FULL,
+        {.payload = too_long, .payload_len = sizeof too_long}
+    };
+    size_t i;
+
+    for (i = 0; i < COUNT(codes); i++) {
+        given.call.event.code = codes[i];
+        test_unchanged(&given, 1);
+    }
+}
+
+/* ---- Refusals of menhotrac_call_step ---- */
+
+/* The memory of a call in one stretch, so that any two of its pieces can be made to overlap. */
+enum {
+    SPACING = 16384,
+    STRETCH = SPACING * (MENHOTRAC_LENT_COUNT + 1)
+};
+
+static const size_t sizes[MENHOTRAC_LENT_COUNT] = {
+    [MENHOTRAC_LENT_ACTIONS] = sizeof(menhotrac_actions),
+    [MENHOTRAC_LENT_CONNECTION] = sizeof(menhotrac_connection),
+    [MENHOTRAC_LENT_CACHE] = FULL,
+    [MENHOTRAC_LENT_CALL] = sizeof(menhotrac_call),
+    [MENHOTRAC_LENT_PAYLOAD] = 8,
+    [MENHOTRAC_LENT_OUR_VERIFIERS] = 4 * sizeof(uint32_t),
+    [MENHOTRAC_LENT_PEER_PROVERS] = 4 * sizeof(uint32_t),
+    [MENHOTRAC_LENT_PEER_VERIFIERS] = 4 * sizeof(uint32_t),
+    [MENHOTRAC_LENT_OUR_PROVERS] = 4 * sizeof(uint32_t)
+};
+
+struct stretch {
+    uint8_t *bytes;
+    void *at[MENHOTRAC_LENT_COUNT];
+};
+
+static void lay_out(struct stretch *stretch)
+{
+    size_t i;
+
+    for (i = 0; i < MENHOTRAC_LENT_COUNT; i++)
+        stretch->at[i] = stretch->bytes + (i + 1) * SPACING;
+}
+
+static menhotrac_list list_at(const struct stretch *stretch, size_t which)
+{
+    menhotrac_list list = {stretch->at[which], sizes[which] / sizeof(uint32_t)};
+
+    return list;
+}
+
+/* Writes the call into its place. The event is one that reads neither payload nor lists. */
+static void write_call(const struct stretch *stretch)
+{
+    menhotrac_call call = {
+        .event = {.code = MENHOTRAC_EVENT_UPPER_START_HANDSHAKE},
+        .payload = stretch->at[MENHOTRAC_LENT_PAYLOAD],
+        .payload_len = sizes[MENHOTRAC_LENT_PAYLOAD],
+        .our_verifiers = list_at(stretch, MENHOTRAC_LENT_OUR_VERIFIERS),
+        .peer_provers = list_at(stretch, MENHOTRAC_LENT_PEER_PROVERS),
+        .peer_verifiers = list_at(stretch, MENHOTRAC_LENT_PEER_VERIFIERS),
+        .our_provers = list_at(stretch, MENHOTRAC_LENT_OUR_PROVERS)
+    };
+
+    memset(stretch->bytes, FILLER, STRETCH);
+    if (stretch->at[MENHOTRAC_LENT_CONNECTION] != NULL)
+        memcpy(stretch->at[MENHOTRAC_LENT_CONNECTION], &fresh, sizeof fresh);
+    if (stretch->at[MENHOTRAC_LENT_CALL] != NULL)
+        memcpy(stretch->at[MENHOTRAC_LENT_CALL], &call, sizeof call);
+}
+
+static uint32_t step_in(const struct stretch *stretch)
+{
+    return menhotrac_call_step(stretch->at[MENHOTRAC_LENT_CONNECTION],
+                               stretch->at[MENHOTRAC_LENT_CALL],
+                               stretch->at[MENHOTRAC_LENT_CACHE], FULL,
+                               stretch->at[MENHOTRAC_LENT_ACTIONS]);
+}
+
+/* Nothing of the stretch is written, except for the actions where they may be. */
+static void check_refused_in(const struct stretch *stretch, uint32_t refusal, int actions_written)
+{
+    uint8_t *expected = malloc(STRETCH);
+    const uint8_t *actions = stretch->at[MENHOTRAC_LENT_ACTIONS];
+
+    CHECK(expected != NULL);
+    write_call(stretch);
+    memcpy(expected, stretch->bytes, STRETCH);
+    if (actions_written)
+        memset(expected + (actions - stretch->bytes), 0, sizes[MENHOTRAC_LENT_ACTIONS]);
+    CHECK(step_in(stretch) == refusal);
+    CHECK(memcmp(expected, stretch->bytes, STRETCH) == 0);
+    free(expected);
+}
+
+static void test_null(struct stretch *stretch)
+{
+    size_t i;
+
+    running = "NULL lent";
+    for (i = 0; i < MENHOTRAC_LENT_COUNT; i++) {
+        lay_out(stretch);
+        stretch->at[i] = NULL;
+        check_refused_in(stretch, MENHOTRAC_REFUSED_NULL, i != MENHOTRAC_LENT_ACTIONS);
+    }
+}
+
+/* Each piece just beside one that is written is taken, and 8 bytes nearer it is refused. */
+static void check_beside(struct stretch *stretch, size_t written, size_t other)
+{
+    uint8_t *start;
+    int actions_written = written != MENHOTRAC_LENT_ACTIONS && other != MENHOTRAC_LENT_ACTIONS;
+
+    lay_out(stretch);
+    start = stretch->at[written];
+    stretch->at[other] = start + sizes[written];
+    write_call(stretch);
+    CHECK(step_in(stretch) == MENHOTRAC_HANDLED);
+    stretch->at[other] = start + sizes[written] - 8;
+    check_refused_in(stretch, MENHOTRAC_REFUSED_OVERLAP, actions_written);
+    stretch->at[other] = start - sizes[other];
+    write_call(stretch);
+    CHECK(step_in(stretch) == MENHOTRAC_HANDLED);
+    stretch->at[other] = start - sizes[other] + 8;
+    check_refused_in(stretch, MENHOTRAC_REFUSED_OVERLAP, actions_written);
+}
+
+static void test_overlap(struct stretch *stretch)
+{
+    size_t written;
+    size_t other;
+
+    running = "overlap";
+    for (written = 0; written < MENHOTRAC_LENT_WRITTEN; written++) {
+        for (other = 0; other < MENHOTRAC_LENT_COUNT; other++) {
+            if (other != written)
+                check_beside(stretch, written, other);
+        }
+    }
+}
+
+/* Single bytes, empty slices and lengths that no memory has. */
+static void test_overlap_limits(void)
+{
+    struct bench bench;
+    menhotrac_call call = {.event = {.code = MENHOTRAC_EVENT_UPPER_CLOSE}};
+
+    running = "limits of an overlap";
+    set_up(&bench, &locked);
+    call.payload = bench.cache + FULL - 1;
+    call.payload_len = 1;
+    CHECK(step(&bench, &call) == MENHOTRAC_REFUSED_OVERLAP);
+    call.payload_len = 0;
+    CHECK(step(&bench, &call) == MENHOTRAC_IGNORED);
+    call.payload = bench.before;
+    call.payload_len = SIZE_MAX;
+    CHECK(step(&bench, &call) == MENHOTRAC_REFUSED_OVERLAP);
+    call.payload_len = 0;
+    call.our_provers.suites = (const uint32_t *)(const void *)bench.before;
+    call.our_provers.len = SIZE_MAX / sizeof(uint32_t) + 2; /* 4 bytes, if they wrapped */
+    CHECK(step(&bench, &call) == MENHOTRAC_REFUSED_OVERLAP);
+}
+
+/* Memory that is only read may overlap: one list for all four, as where both ends have the same. */
+static void test_shared_list(void)
+{
+    struct bench bench;
+    menhotrac_call call = {
+        .event = HELLO(MENHOTRAC_VERDICT_YES), .our_verifiers = LIST(suite_1),
+        .peer_provers = LIST(suite_1), .peer_verifiers = LIST(suite_1), .our_provers = LIST(suite_1)
+    };
+
+    running = "one list for all four";
+    set_up(&bench, &greeted);
+    CHECK(step(&bench, &call) == MENHOTRAC_HANDLED);
+    CHECK(bench.connection.state == MENHOTRAC_STATE_WAIT_FOR_RA);
+}
+
+static void test_lending(void)
+{
+    struct stretch stretch;
+
+    running = "memory for the tests";
+    stretch.bytes = malloc(STRETCH);
+    CHECK(stretch.bytes != NULL);
+    test_null(&stretch);
+    test_overlap(&stretch);
+    free(stretch.bytes);
+    test_overlap_limits();
+    test_shared_list();
+}
+
+/* Empty slices may be NULL; a cache that is empty is too short. */
+static void test_empty_slices(void)
+{
+    struct bench bench;
+    menhotrac_call call = MENHOTRAC_ZERO;
+    size_t i;
+
+    running = "NULL with length 0";
+    for (i = 0; i < COUNT(faces); i++) {
+        set_up(&bench, &fresh);
+        call.event.code = MENHOTRAC_EVENT_UPPER_START_HANDSHAKE;
+        CHECK(faces[i](&bench.connection, &call, NULL, 0, &bench.actions)
+              == MENHOTRAC_REFUSED_CACHE_TOO_SHORT);
+        CHECK(faces[i](&bench.connection, &call, bench.cache, FULL, &bench.actions)
+              == MENHOTRAC_HANDLED);
+        set_up(&bench, &ready);
+        call.event.code = MENHOTRAC_EVENT_UPPER_SEND_DATA;
+        CHECK(faces[i](&bench.connection, &call, bench.cache, FULL, &bench.actions)
+              == MENHOTRAC_HANDLED);
+        set_up(&bench, &greeted);
+        call.event.code = MENHOTRAC_EVENT_SC_HELLO;
+        CHECK(faces[i](&bench.connection, &call, bench.cache, FULL, &bench.actions)
+              == MENHOTRAC_HANDLED);
+        CHECK(bench.connection.state == MENHOTRAC_STATE_CLOSED_LOCKED);
+    }
+}
+
+/* ---- Record, token and suites ---- */
+
+static void test_fresh(void)
+{
+    struct bench bench;
+    struct bench expected;
+
+    running = "a new connection";
+    set_up(&bench, &waiting);
+    set_up(&expected, &fresh);
+    menhotrac_fresh(&bench.connection);
+    CHECK(memcmp(&bench, &expected, sizeof bench) == 0);
+}
+
+static void test_seconds_left(void)
+{
+    static const struct {
+        const char *name;
+        int64_t expiry;
+        int64_t now;
+        int64_t left;
+    } cases[] = {
+        {"case 11", 1000, 1000, 0},
+        {"the boot run's token", 1060, 1000, 60},
+        {"a second late", 1000, 1001, -1},
+        {"across zero", 30, -30, 60},
+        {"a day less a second", 87399, 1000, 86399},
+        {"a day", 87400, 1000, 86400},
+        {"a day and a second", 87401, 1000, 86400},
+        {"late by a day less a second", 1000, 87399, -86399},
+        {"late by a day", 1000, 87400, -86400},
+        {"late by a day and a second", 1000, 87401, -86400},
+        {"case 12", INT64_MAX, INT64_MIN, 86400},
+        {"case 12, swapped", INT64_MIN, INT64_MAX, -86400},
+        {"both largest", INT64_MAX, INT64_MAX, 0},
+        {"both smallest", INT64_MIN, INT64_MIN, 0},
+        {"one more than 64 bits hold", INT64_MAX, -1, 86400},
+        {"one less than 64 bits hold", INT64_MIN, 1, -86400},
+    };
+    size_t i;
+
+    for (i = 0; i < COUNT(cases); i++) {
+        running = cases[i].name;
+        CHECK(menhotrac_seconds_left(cases[i].expiry, cases[i].now) == cases[i].left);
+    }
+}
+
+struct choice_case {
+    const char *name;
+    uint32_t refusal;
+    menhotrac_list our_verifiers;
+    menhotrac_list peer_provers;
+    menhotrac_list peer_verifiers;
+    menhotrac_list our_provers;
+    menhotrac_choice chosen;
+};
+
+static const uint32_t suite_0[] = {0};
+static const uint32_t repeats[] = {5, 5, 3, 3, 4};
+static const uint32_t others[] = {4, 4, 3};
+
+static const struct choice_case choices[] = {
+    {"the boot run's suites", 0, LIST(suites_7_3), LIST(suites_3_7), LIST(suite_3),
+     LIST(suites_3_7), {1, 7, 1, 3}},
+    {"nothing in common", 0, LIST(suite_1), LIST(suite_2), LIST(suite_2), LIST(suite_1),
+     {0, 0, 0, 0}},
+    {"a verifier alone", 0, LIST(suite_1), LIST(suite_1), LIST(suite_1), LIST(suite_2),
+     {1, 1, 0, 0}},
+    {"a prover alone", 0, LIST(suite_1), LIST(suite_2), LIST(suite_1), LIST(suite_1),
+     {0, 0, 1, 1}},
+    {"repeats", 0, LIST(repeats), LIST(others), LIST(others), LIST(repeats), {1, 3, 1, 4}},
+    {"suite 0 found", 0, LIST(suite_0), LIST(suite_0), LIST(suite_0), LIST(suite_1),
+     {1, 0, 0, 0}},
+    {"empty lists", 0, {NULL, 0}, {NULL, 0}, {NULL, 0}, {NULL, 0}, {0, 0, 0, 0}},
+    {"16 entries, the last in common", 0, LIST(sixteen), LIST(suite_1), LIST(suite_1),
+     LIST(sixteen), {1, 1, 1, 1}},
+    {"17 of our verifiers", 6, LIST(seventeen), LIST(suite_1), LIST(suite_1), LIST(suite_1),
+     {0, 0, 0, 0}},
+    {"17 of the peer's provers", 6, LIST(suite_1), LIST(seventeen), LIST(suite_1), LIST(suite_1),
+     {0, 0, 0, 0}},
+    {"17 of the peer's verifiers", 6, LIST(suite_1), LIST(suite_1), LIST(seventeen), LIST(suite_1),
+     {0, 0, 0, 0}},
+    {"17 of our provers", 6, LIST(suite_1), LIST(suite_1), LIST(suite_1), LIST(seventeen),
+     {0, 0, 0, 0}},
+};
+
+static void test_choices(void)
+{
+    menhotrac_choice guarded[3]; /* the choice between two guards */
+    menhotrac_choice expected[3];
+    size_t i;
+
+    for (i = 0; i < COUNT(choices); i++) {
+        const struct choice_case *given = &choices[i];
+
+        running = given->name;
+        memset(guarded, FILLER, sizeof guarded);
+        memset(expected, FILLER, sizeof expected);
+        expected[1] = given->chosen;
+        CHECK(menhotrac_choose_suites(given->our_verifiers.suites, given->our_verifiers.len,
+                                      given->peer_provers.suites, given->peer_provers.len,
+                                      given->peer_verifiers.suites, given->peer_verifiers.len,
+                                      given->our_provers.suites, given->our_provers.len,
+                                      &guarded[1]) == given->refusal);
+        CHECK(memcmp(guarded, expected, sizeof guarded) == 0);
+    }
+}
+
+/* ---- Handled calls ---- */
+
+/* Case 11 and its neighbours: whether a hello opens the connection. */
+struct hello_case {
+    const char *name;
+    uint32_t seconds; /* of DAT, 0 where the hello locks */
+    menhotrac_event event;
+    menhotrac_list our_provers;
+};
+
+static const struct hello_case hellos[] = {
+    {"the boot run's hello", 60, HELLO(MENHOTRAC_VERDICT_YES), LIST(suites_3_7)},
+    {"case 11, no second left", 0, TOKEN(MENHOTRAC_EVENT_SC_HELLO, 1, 1000), LIST(suites_3_7)},
+    {"one second left", 1, TOKEN(MENHOTRAC_EVENT_SC_HELLO, 1, 1001), LIST(suites_3_7)},
+    {"verdict no", 0, HELLO(MENHOTRAC_VERDICT_NO), LIST(suites_3_7)},
+    {"16 suites", 60, HELLO(MENHOTRAC_VERDICT_YES), LIST(sixteen)},
+    {"no suite in common", 0, HELLO(MENHOTRAC_VERDICT_YES), LIST(suite_2)},
+};
+
+static const menhotrac_actions locking = {
+    .message = MENHOTRAC_MESSAGE_CLOSE, .h = MENHOTRAC_TIMER_CANCEL
+};
+static const menhotrac_actions opening = {
+    .prover = MENHOTRAC_DRIVER_START, .verifier = MENHOTRAC_DRIVER_START,
+    .h = MENHOTRAC_TIMER_CANCEL, .hp = MENHOTRAC_TIMER_START, .hv = MENHOTRAC_TIMER_START,
+    .dat = MENHOTRAC_TIMER_START, .verifier_suite = 7, .prover_suite = 3
+};
+
+static void check_hello(const struct hello_case *given)
+{
+    menhotrac_call call = {
+        .event = given->event, .our_verifiers = LIST(suites_7_3), .peer_provers = LIST(suites_3_7),
+        .peer_verifiers = LIST(suite_3), .our_provers = given->our_provers
+    };
+    int opens = given->seconds > 0;
+    menhotrac_actions expected = opens ? opening : locking;
+    struct bench bench;
+    struct bench before;
+
+    running = given->name;
+    expected.dat_seconds = given->seconds;
+    set_up(&bench, &greeted);
+    before = bench;
+    CHECK(step(&bench, &call) == MENHOTRAC_HANDLED);
+    CHECK(bench.connection.state
+          == (opens ? MENHOTRAC_STATE_WAIT_FOR_RA : MENHOTRAC_STATE_CLOSED_LOCKED));
+    CHECK(bench.connection.handled == greeted.handled + 1);
+    CHECK(memcmp(&bench.actions, &expected, sizeof expected) == 0);
+    CHECK(kept_around(&bench, &before, 0));
+}
+
+static void test_hellos(void)
+{
+    size_t i;
+
+    for (i = 0; i < COUNT(hellos); i++)
+        check_hello(&hellos[i]);
+}
+
+/* A block of 0 and of 4,096 bytes is taken; the cache keeps its bytes after the block. */
+static void check_sent(const char *name, const uint8_t *payload, size_t len)
+{
+    struct bench bench;
+    struct bench before;
+    menhotrac_call call = {
+        .event = {.code = MENHOTRAC_EVENT_UPPER_SEND_DATA}, .payload = payload, .payload_len = len
+    };
+    const uint8_t *part;
+    size_t part_len;
+
+    running = name;
+    set_up(&bench, &ready);
+    before = bench;
+    CHECK(step(&bench, &call) == MENHOTRAC_HANDLED);
+    CHECK(bench.connection.cached_len == len);
+    CHECK(kept_around(&bench, &before, len));
+    part = menhotrac_part(&bench.actions, payload, len, bench.cache, FULL, &part_len);
+    CHECK(part == bench.cache && part_len == len);
+    CHECK(memcmp(bench.cache, payload, len) == 0);
+}
+
+/* Whether the actions send `block` with a bit, from the cache. */
+static int sends_block(const struct bench *bench, uint32_t bit)
+{
+    size_t len;
+    const uint8_t *part = menhotrac_part(&bench->actions, NULL, 0, bench->cache, FULL, &len);
+
+    return bench->actions.message == MENHOTRAC_MESSAGE_DATA && bench->actions.bit == bit
+        && bench->actions.ack == MENHOTRAC_TIMER_START
+        && len == BLOCK && memcmp(part, block, BLOCK) == 0;
+}
+
+static void test_repeat(void)
+{
+    struct bench bench;
+    uint8_t lent[BLOCK];
+    menhotrac_call sending = {
+        .event = {.code = MENHOTRAC_EVENT_UPPER_SEND_DATA}, .payload = lent, .payload_len = BLOCK
+    };
+    menhotrac_call timeout = {.event = {.code = MENHOTRAC_EVENT_ACK_TIMEOUT}};
+    menhotrac_call acknowledgement = {.event = {.code = MENHOTRAC_EVENT_SC_ACK, .bit = 0}};
+
+    running = "a block, repeated and acknowledged";
+    memcpy(lent, block, BLOCK);
+    set_up(&bench, &ready);
+    CHECK(step(&bench, &sending) == MENHOTRAC_HANDLED);
+    CHECK(sends_block(&bench, 0));
+    memset(lent, 0, sizeof lent); /* the host's buffer again: the repeat comes from the cache */
+    timeout.event.tag = bench.connection.handled;
+    CHECK(step(&bench, &timeout) == MENHOTRAC_HANDLED);
+    CHECK(sends_block(&bench, 0));
+    CHECK(step(&bench, &timeout) == MENHOTRAC_IGNORED); /* ACK has a new tag */
+    timeout.event.tag = bench.connection.handled;
+    CHECK(step(&bench, &timeout) == MENHOTRAC_HANDLED);
+    CHECK(sends_block(&bench, 0));
+    CHECK(step(&bench, &acknowledgement) == MENHOTRAC_HANDLED);
+    CHECK(bench.connection.state == MENHOTRAC_STATE_ESTABLISHED);
+    CHECK(bench.actions.ack == MENHOTRAC_TIMER_CANCEL);
+    memcpy(lent, block, BLOCK);
+    CHECK(step(&bench, &sending) == MENHOTRAC_HANDLED);
+    CHECK(sends_block(&bench, 1));
+}
+
+/* The event's payload is the part. `orders` are the actions but for the part. */
+static void check_passed_on(const menhotrac_connection *connection, const menhotrac_event *event,
+                            menhotrac_actions orders)
+{
+    struct bench bench;
+    struct bench before;
+    menhotrac_call call = {.event = *event, .payload = block, .payload_len = BLOCK};
+    size_t len;
+
+    orders.payload_slice = MENHOTRAC_SLICE_EVENT;
+    orders.payload_len = BLOCK;
+    set_up(&bench, connection);
+    before = bench;
+    CHECK(step(&bench, &call) == MENHOTRAC_HANDLED);
+    CHECK(memcmp(&bench.actions, &orders, sizeof orders) == 0);
+    CHECK(menhotrac_part(&bench.actions, block, BLOCK, bench.cache, FULL, &len) == block);
+    CHECK(len == BLOCK);
+    CHECK(kept_around(&bench, &before, 0));
+}
+
+static void test_passed_on(void)
+{
+    static const struct {
+        const char *name;
+        const menhotrac_connection *connection;
+        menhotrac_event event;
+        menhotrac_actions orders;
+    } cases[] = {
+        {"a message of our verifier", &both_run,
+         {.code = MENHOTRAC_EVENT_RA_VERIFIER_MSG, .tag = 8},
+         {.message = MENHOTRAC_MESSAGE_RA_VERIFIER}},
+        {"a message of our prover", &both_run, {.code = MENHOTRAC_EVENT_RA_PROVER_MSG, .tag = 7},
+         {.message = MENHOTRAC_MESSAGE_RA_PROVER}},
+        {"a message of the peer's prover", &both_run, {.code = MENHOTRAC_EVENT_SC_RA_PROVER},
+         {.verifier = MENHOTRAC_DRIVER_FORWARD}},
+        {"a message of the peer's verifier", &both_run, {.code = MENHOTRAC_EVENT_SC_RA_VERIFIER},
+         {.prover = MENHOTRAC_DRIVER_FORWARD}},
+        {"a block of the peer", &ready, {.code = MENHOTRAC_EVENT_SC_DATA},
+         {.message = MENHOTRAC_MESSAGE_ACK, .deliver = 1}},
+    };
+    size_t i;
+
+    for (i = 0; i < COUNT(cases); i++) {
+        running = cases[i].name;
+        check_passed_on(cases[i].connection, &cases[i].event, cases[i].orders);
+    }
+}
+
+/* The part stays within the slice that the actions name, whatever their numbers are. */
+static void test_parts(void)
+{
+    static const struct {
+        const char *name;
+        uint32_t slice;
+        uint32_t len;
+        size_t part_len;
+    } cases[] = {
+        {"the whole payload", MENHOTRAC_SLICE_EVENT, BLOCK, BLOCK},
+        {"a payload that is too short", MENHOTRAC_SLICE_EVENT, BLOCK + 1, 0},
+        {"the largest length", MENHOTRAC_SLICE_CACHE, UINT32_MAX, 0},
+        {"the whole cache", MENHOTRAC_SLICE_CACHE, FULL, FULL},
+        {"a cache that is too short", MENHOTRAC_SLICE_CACHE, FULL + 1, 0},
+        {"no slice", MENHOTRAC_SLICE_NONE, 1, 0},
+        {"an unknown slice", 3, 1, 0},
+    };
+    static const uint8_t cache[FULL];
+    size_t i;
+
+    for (i = 0; i < COUNT(cases); i++) {
+        menhotrac_actions actions = {
+            .payload_slice = cases[i].slice, .payload_len = cases[i].len
+        };
+        size_t len;
+        const uint8_t *part = menhotrac_part(&actions, block, BLOCK, cache, FULL, &len);
+
+        running = cases[i].name;
+        CHECK(len == cases[i].part_len);
+        CHECK(part == (cases[i].slice == MENHOTRAC_SLICE_CACHE ? cache : block));
+    }
+}
+
+static void test_names(void)
+{
+    running = "names";
+    CHECK(strcmp(menhotrac_state_name(MENHOTRAC_STATE_CLOSED_LOCKED), "CLOSED_LOCKED") == 0);
+    CHECK(strcmp(menhotrac_state_name(10), "unknown") == 0);
+    CHECK(strcmp(menhotrac_message_name(MENHOTRAC_MESSAGE_ACK), "ACK") == 0);
+    CHECK(strcmp(menhotrac_message_name(10), "unknown") == 0);
+    CHECK(strcmp(menhotrac_answer_name(MENHOTRAC_REFUSED_WRONG_BIT), "wrong bit") == 0);
+    CHECK(strcmp(menhotrac_answer_name(MENHOTRAC_REFUSED_NUMBER_EXHAUSTED),
+                 "number of handled events exhausted") == 0);
+    CHECK(strcmp(menhotrac_answer_name(9), "unknown") == 0);
+    CHECK(strcmp(menhotrac_answer_name(40), "unknown") == 0);
+    CHECK(strcmp(menhotrac_answer_name(MENHOTRAC_REFUSED_WRONG_VERDICT), "wrong verdict") == 0);
+    CHECK(strcmp(menhotrac_answer_name(MENHOTRAC_REFUSED_OVERLAP),
+                 "written memory overlaps") == 0);
+    CHECK(strcmp(menhotrac_answer_name(44), "unknown") == 0);
+    CHECK(strcmp(menhotrac_answer_name(MENHOTRAC_IGNORED), "ignored") == 0);
+    CHECK(strcmp(menhotrac_answer_name(UINT32_MAX), "unknown") == 0);
+}
+
+int main(void)
+{
+    static const uint8_t full_block[MENHOTRAC_MAX_PAYLOAD] = {1, 2, 3};
+
+    test_unchanged(refused, COUNT(refused));
+    test_unchanged(lowest, COUNT(lowest));
+    test_unchanged(ignored, COUNT(ignored));
+    test_payload_too_long();
+    test_lending();
+    test_empty_slices();
+    test_fresh();
+    test_seconds_left();
+    test_choices();
+    test_hellos();
+    check_sent("block of 0 bytes", block, 0);
+    check_sent("block of 5 bytes", block, BLOCK);
+    check_sent("block of 4,096 bytes", full_block, sizeof full_block);
+    test_repeat();
+    test_passed_on();
+    test_parts();
+    test_names();
+    printf("c face: %lu checks passed\n", checks);
+    return EXIT_SUCCESS;
+}

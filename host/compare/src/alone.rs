@@ -1,0 +1,64 @@
+//! The fresh record, the token's time and the choice of suites, asked alone.
+
+use crate::difference::Difference;
+use crate::draw;
+use crate::session::{Checked, Session};
+use crate::suite_lists::SuiteLists;
+use crate::translate;
+use menhotrac::raw;
+use model::random::Random;
+use model::Record;
+use std::fmt::Debug;
+
+pub fn call(session: &mut Session) -> Checked<()> {
+    session.coverage.note_asked_alone();
+    match session.random.below(100) {
+        0 => ask_fresh(),
+        1..=49 => ask_seconds(&mut session.random),
+        _ => ask_suites(&mut session.random),
+    }
+}
+
+fn same<T: PartialEq + Debug>(
+    what: &'static str,
+    given: &dyn Debug,
+    model: T,
+    product: T,
+) -> Checked<()> {
+    if model == product {
+        return Ok(());
+    }
+    let sides: [(_, &dyn Debug); 2] = [("model", &model), ("archive", &product)];
+    Err(Difference::new(what, given, sides))
+}
+
+fn ask_fresh() -> Checked<()> {
+    let model = translate::connection(&Record::fresh());
+    same("the fresh records differ", &(), model, raw::fresh())
+}
+
+fn ask_seconds(random: &mut Random) -> Checked<()> {
+    let (expiry, now) = draw::any_times(random);
+    let model = model::seconds_left(expiry, now);
+    let product = raw::seconds_left(expiry, now);
+    let given = (("expiry", expiry), ("now", now));
+    same("the seconds left differ", &given, model, product)
+}
+
+/// A suite that was not found, and both when refused, come back as 0 and 0.
+fn ask_suites(random: &mut Random) -> Checked<()> {
+    let suites = SuiteLists::draw(random);
+    let (refusal, verifier, prover) = match model::choose(&suites.lists()) {
+        Ok(found) => (0, found.verifier, found.prover),
+        Err(number) => (number, None, None),
+    };
+    let pair = |suite: Option<u32>| suite.map_or((0, 0), |number| (1, number));
+    let model = (refusal, pair(verifier), pair(prover));
+    let choice = raw::choose_suites(&translate::lists(&suites.lists()));
+    let product = (
+        choice.refusal,
+        (choice.verifier_found, choice.verifier),
+        (choice.prover_found, choice.prover),
+    );
+    same("the suites differ", &suites, model, product)
+}

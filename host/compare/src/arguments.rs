@@ -1,0 +1,61 @@
+//! What a call gives to both sides besides the record and the cache's bytes.
+
+use crate::suite_lists::SuiteLists;
+use menhotrac::raw;
+use model::{carries_token, Call, Event, MOST_BYTES};
+use std::fmt;
+
+/// Bytes that a cache may be longer than it must.
+pub const SPARE_BYTES: u32 = 64;
+
+/// The longest cache that is given.
+pub const CACHE_ROOM: usize = (MOST_BYTES + SPARE_BYTES) as usize;
+
+#[derive(Clone, Copy)]
+pub struct Arguments<'a> {
+    pub event: raw::Event,
+    pub payload: &'a [u8],
+    pub suites: SuiteLists,
+    pub cache_len: usize,
+}
+
+impl Arguments<'_> {
+    /// The call as the model takes it; a verdict that is not 1 is taken for no.
+    pub fn call(&self) -> Call<'_> {
+        let event = &self.event;
+        Call {
+            event: Event {
+                code: event.code,
+                tag: event.tag,
+                timer: event.timer,
+                bit: event.bit,
+                verdict: event.verdict == 1,
+                expiry: event.expiry,
+                now: event.now,
+            },
+            payload: self.payload,
+            lists: self.suites.lists(),
+        }
+    }
+
+    /// The fault of the C face's own refusal.
+    pub fn wrong_verdict(&self) -> bool {
+        carries_token(self.event.code) && self.event.verdict > 1
+    }
+}
+
+/// Prints no more of the payload than its first bytes; the seed and the call's
+/// number bring the rest back.
+impl fmt::Debug for Arguments<'_> {
+    fn fmt(&self, formatter: &mut fmt::Formatter) -> fmt::Result {
+        let begin = &self.payload[..self.payload.len().min(16)];
+        formatter
+            .debug_struct("Arguments")
+            .field("event", &self.event)
+            .field("payload_len", &self.payload.len())
+            .field("payload_begins", &format_args!("{begin:02x?}"))
+            .field("suites", &self.suites)
+            .field("cache_len", &self.cache_len)
+            .finish()
+    }
+}

@@ -1,0 +1,154 @@
+//! What was seen, and what has to be seen.
+
+use crate::arguments::Arguments;
+use crate::spoilt::{self, Spoil};
+use crate::trial::Outcome;
+use menhotrac::raw::{HANDLED, IGNORED, WRONG_VERDICT};
+use model::{fault, transitions, Record};
+use std::collections::{BTreeMap, BTreeSet};
+use std::fmt::Debug;
+
+/// How many transitions can occur from fresh.
+const TRANSITIONS: usize = 94;
+
+/// The faults, by the number of their refusal.
+const FAULTS: [u32; 9] = [1, 2, 3, 4, 5, 6, 7, 8, WRONG_VERDICT];
+
+/// Every pair of faults that one call can have. A short cache (5) and a record
+/// that is not well formed (7) go with everything. The others ask for codes: 1
+/// above 23; 2 for 20; 3 for 18 or 19; 4 for 2, 6, 9, 15, 16 or 18; 6 for 11;
+/// the wrong verdict for 11 or 13. So of those only 3 and 4 (event 18), and 6
+/// and the wrong verdict (event 11), meet. 8 asks that the event be handled:
+/// never so of an unknown code (1) or timer (2); 3 meets it only in a record
+/// whose bit is itself above 1, which has the fault 7 as well.
+const PAIRS: [(u32, u32); 21] = [
+    (1, 5),
+    (1, 7),
+    (2, 5),
+    (2, 7),
+    (3, 4),
+    (3, 5),
+    (3, 7),
+    (3, 8),
+    (4, 5),
+    (4, 7),
+    (4, 8),
+    (5, 6),
+    (5, 7),
+    (5, 8),
+    (5, WRONG_VERDICT),
+    (6, 7),
+    (6, 8),
+    (6, WRONG_VERDICT),
+    (7, 8),
+    (7, WRONG_VERDICT),
+    (8, WRONG_VERDICT),
+];
+
+/// What the calls of a thread, or of all, have shown.
+#[derive(Clone, Debug, Default)]
+pub struct Coverage {
+    asked_alone: u64,
+    answers: BTreeMap<u32, u64>,
+    transitions: BTreeSet<(u32, u32, u32)>,
+    pairs: BTreeSet<(u32, u32)>,
+    spoils: BTreeSet<Spoil>,
+}
+
+impl Coverage {
+    /// Notes a step's answer and, if it was refused, all faults it had.
+    pub fn note_call(&mut self, record: &Record, arguments: &Arguments, outcome: &Outcome) {
+        *self.answers.entry(outcome.answer).or_default() += 1;
+        if !is_refusal(outcome.answer) {
+            return;
+        }
+        let call = arguments.call();
+        let present = |&number: &u32| match number {
+            WRONG_VERDICT => arguments.wrong_verdict(),
+            _ => fault(number, record, &call, arguments.cache_len),
+        };
+        let faults: Vec<u32> = FAULTS.into_iter().filter(present).collect();
+        for (index, &first) in faults.iter().enumerate() {
+            let later = faults[index + 1..].iter();
+            self.pairs.extend(later.map(|&second| (first, second)));
+        }
+    }
+
+    pub fn note_transition(&mut self, state: u32, event: u32, next: u32) {
+        self.transitions.insert((state, event, next));
+    }
+
+    pub fn note_spoil(&mut self, spoil: Spoil) {
+        self.spoils.insert(spoil);
+    }
+
+    pub fn note_asked_alone(&mut self) {
+        self.asked_alone += 1;
+    }
+
+    pub fn add(&mut self, other: Coverage) {
+        self.asked_alone += other.asked_alone;
+        for (answer, count) in other.answers {
+            *self.answers.entry(answer).or_default() += count;
+        }
+        self.transitions.extend(other.transitions);
+        self.pairs.extend(other.pairs);
+        self.spoils.extend(other.spoils);
+    }
+
+    /// The summary, and whether all was seen that has to be, and nothing else.
+    pub fn summary(&self) -> (String, bool) {
+        let possible: BTreeSet<_> = transitions().into_iter().collect();
+        let spoils = spoilt::all().into_iter().collect();
+        let answers = self.answers.keys().copied();
+        let refusals = answers.filter(|&answer| is_refusal(answer)).collect();
+        let parts = [
+            size("transitions of the table", possible.len(), TRANSITIONS),
+            seen("transitions", &self.transitions, possible),
+            seen("refusals", &refusals, FAULTS.into()),
+            seen("pairs of faults", &self.pairs, PAIRS.into()),
+            seen("spoilt clauses", &self.spoils, spoils),
+        ];
+        let lines: String = parts.iter().map(|(line, _)| line.as_str()).collect();
+        (self.counts() + &lines, parts.iter().all(|&(_, good)| good))
+    }
+
+    fn counts(&self) -> String {
+        let mut text = String::new();
+        for (&answer, count) in &self.answers {
+            text += &match answer {
+                HANDLED => format!("handled {count}\n"),
+                IGNORED => format!("ignored {count}\n"),
+                number => format!("refused {number}: {count}\n"),
+            };
+        }
+        text + &format!("asked alone {}\n", self.asked_alone)
+    }
+}
+
+fn is_refusal(answer: u32) -> bool {
+    ![HANDLED, IGNORED].contains(&answer)
+}
+
+/// Says nothing of a set that is as large as it should be.
+fn size(name: &str, found: usize, wanted: usize) -> (String, bool) {
+    if found == wanted {
+        return (String::new(), true);
+    }
+    (format!("{name} {found}, NOT {wanted}\n"), false)
+}
+
+/// A line of the summary, and whether what was seen is just what was wanted.
+fn seen<T: Ord + Debug>(name: &str, seen: &BTreeSet<T>, wanted: BTreeSet<T>) -> (String, bool) {
+    let missing: Vec<_> = wanted.difference(seen).collect();
+    let surplus: Vec<_> = seen.difference(&wanted).collect();
+    let all = wanted.len();
+    let mut line = format!("{name} seen {} of {all}\n", all - missing.len());
+    if !missing.is_empty() {
+        line += &format!("NOT SEEN: {missing:?}\n");
+    }
+    if !surplus.is_empty() {
+        line += &format!("SEEN, BUT CANNOT BE: {surplus:?}\n");
+    }
+    (line, missing.is_empty() && surplus.is_empty())
+}

@@ -1,0 +1,168 @@
+//! One call given to the model and to the archive, and everything compared.
+
+use crate::arguments::{Arguments, CACHE_ROOM};
+use crate::difference::Difference;
+use crate::session::Checked;
+use crate::translate;
+use menhotrac::raw::{self, Actions, Connection, HANDLED, WRONG_VERDICT};
+use model::{code, refusal, slice, step, Record, Sheet};
+
+const RUBBISH: Actions = Actions {
+    message: 77,
+    prover: 77,
+    verifier: 77,
+    h: 77,
+    hp: 77,
+    hv: 77,
+    dat: 77,
+    ra: 77,
+    ack: 77,
+    dat_seconds: 77,
+    bit: 77,
+    deliver: 77,
+    verifier_suite: 77,
+    prover_suite: 77,
+    payload_slice: 77,
+    payload_len: 77,
+};
+
+/// What one side made of a call, in the archive's numbers.
+#[derive(Clone, Copy, Debug, PartialEq, Eq)]
+pub struct Outcome {
+    pub answer: u32,
+    pub connection: Connection,
+    pub actions: Actions,
+}
+
+/// The two sides' caches, and what both have to hold.
+pub struct Sides {
+    model: Vec<u8>,
+    product: Vec<u8>,
+    wanted: Vec<u8>,
+}
+
+/// The bytes a sheet names, taken as a host would; none if the slice is shorter.
+pub fn part<'a>(actions: &Actions, payload: &'a [u8], cache: &'a [u8]) -> Option<&'a [u8]> {
+    let whole = match actions.payload_slice {
+        slice::PAYLOAD => payload,
+        slice::CACHE => cache,
+        _ => &[],
+    };
+    whole.get(..actions.payload_len as usize)
+}
+
+impl Sides {
+    /// Caches that begin with the first of these bytes.
+    pub fn new(bytes: &[u8]) -> Sides {
+        let cache = bytes[..CACHE_ROOM].to_vec();
+        Sides {
+            model: cache.clone(),
+            product: cache.clone(),
+            wanted: cache,
+        }
+    }
+
+    /// The archive's cache, as long as the call's.
+    pub fn cache(&self, arguments: &Arguments) -> &[u8] {
+        &self.product[..arguments.cache_len]
+    }
+
+    /// Makes the call on both sides. The archive's outcome, and the record after
+    /// it, come back if nothing differs.
+    pub fn try_call(
+        &mut self,
+        record: &Record,
+        arguments: &Arguments,
+    ) -> Checked<(Outcome, Record)> {
+        let (after, sheet, model) = self.ask_model(record, arguments);
+        let product = self.ask_product(record, arguments);
+        self.write_wanted(arguments, model.answer);
+        let before = translate::connection(record);
+        let untouched = product.connection == before && product.actions == Actions::default();
+        let what = if product != model {
+            "the outcomes differ"
+        } else if product.answer != HANDLED && !untouched {
+            "a call that was not handled changed the record or gave actions"
+        } else if !self.caches_agree() {
+            "a cache does not hold what it should"
+        } else if !self.parts_agree(arguments, &product.actions, &sheet) {
+            "the payload part is not within its slice, or differs"
+        } else {
+            return Ok((product, after));
+        };
+        Err(self.difference(what, record, arguments, &model, &product))
+    }
+
+    /// The model's record after the call, its sheet and its outcome; the C
+    /// face's own refusal comes after all of the paper's.
+    fn ask_model(&mut self, record: &Record, arguments: &Arguments) -> (Record, Sheet, Outcome) {
+        let call = arguments.call();
+        let face_refuses =
+            arguments.wrong_verdict() && refusal(record, &call, arguments.cache_len).is_none();
+        let (answer, after, sheet) = if face_refuses {
+            (WRONG_VERDICT, *record, Sheet::default())
+        } else {
+            let cache = &mut self.model[..arguments.cache_len];
+            let (answer, after, sheet) = step(record, &call, cache);
+            (translate::answer(answer), after, sheet)
+        };
+        let outcome = Outcome {
+            answer,
+            connection: translate::connection(&after),
+            actions: translate::actions(&sheet),
+        };
+        (after, sheet, outcome)
+    }
+
+    /// The slots hold rubbish before, to see that each is written.
+    fn ask_product(&mut self, record: &Record, arguments: &Arguments) -> Outcome {
+        let mut connection = translate::connection(record);
+        let mut actions = RUBBISH;
+        let answer = raw::step(
+            &mut connection,
+            &arguments.event,
+            arguments.payload,
+            &translate::lists(&arguments.suites.lists()),
+            &mut self.product[..arguments.cache_len],
+            &mut actions,
+        );
+        Outcome {
+            answer,
+            connection,
+            actions,
+        }
+    }
+
+    /// "Event 2 alone writes the cache."
+    fn write_wanted(&mut self, arguments: &Arguments, answer: u32) {
+        if answer == HANDLED && arguments.event.code == code::UPPER_SEND_DATA {
+            self.wanted[..arguments.payload.len()].copy_from_slice(arguments.payload);
+        }
+    }
+
+    /// Compares both caches whole, also behind the length they were given with.
+    fn caches_agree(&self) -> bool {
+        self.model == self.wanted && self.product == self.wanted
+    }
+
+    fn parts_agree(&self, arguments: &Arguments, actions: &Actions, sheet: &Sheet) -> bool {
+        let model_cache = &self.model[..arguments.cache_len];
+        let model_part = model::part(sheet, arguments.payload, model_cache);
+        part(actions, arguments.payload, self.cache(arguments)) == Some(model_part)
+    }
+
+    fn difference(
+        &self,
+        what: &'static str,
+        record: &Record,
+        arguments: &Arguments,
+        model: &Outcome,
+        product: &Outcome,
+    ) -> Box<Difference> {
+        let wrong_at = |cache: &[u8]| (0..CACHE_ROOM).find(|&at| cache[at] != self.wanted[at]);
+        let model = (model, "cache wrong at", wrong_at(&self.model));
+        let product = (product, "cache wrong at", wrong_at(&self.product));
+        let given = (record, arguments);
+        Difference::new(what, &given, [("model", &model), ("archive", &product)])
+    }
+}

@@ -1,0 +1,12 @@
+//! The typed calls against document 01.
+
+mod agreement;
+mod boot_run;
+mod locked;
+mod numbers;
+mod parts;
+mod refusals;
+mod suites;
+mod support;
+mod tags;
+mod tokens;

@@ -1,0 +1,33 @@
+//! Document 01 read into plain Rust.
+//!
+//! Each file follows one section of the paper, sentence by sentence, and
+//! nothing is tuned. The library is proved from definitions of its own; this
+//! crate shares no line with it, so that a definition misread there shows up as
+//! a difference here.
+//!
+//! Records and events hold plain numbers, so that malformed ones can be given.
+
+#![forbid(unsafe_code)]
+
+mod call;
+mod notes;
+mod orders;
+pub mod random;
+mod record;
+mod refusal;
+mod step;
+mod suites;
+mod table;
+mod timers;
+mod token;
+mod turn;
+
+pub use call::{carries_token, code, Call, Event};
+pub use notes::{Foretold, Notes};
+pub use orders::{driver, message, part, slice, timer, Sheet};
+pub use record::{Record, MOST_BYTES};
+pub use refusal::{fault, refusal};
+pub use step::{step, Answer};
+pub use suites::{choose, Lists, Suites, MOST_SUITES};
+pub use table::transitions;
+pub use token::seconds_left;

@@ -1,0 +1,33 @@
+//! "Refusal numbers".
+
+use crate::call::{carries_bit, carries_payload, code, Call};
+use crate::record::{Record, MOST_BYTES};
+use crate::table;
+
+/// Whether the arguments have the fault of refusal `number`, one of 1 to 6.
+pub(crate) fn argument_fault(number: u32, call: &Call, cache_len: usize) -> bool {
+    let event = &call.event;
+    match number {
+        1 => event.code > 23,
+        2 => event.code == code::HANDSHAKE_TIMEOUT && event.timer > 2,
+        3 => carries_bit(event.code) && event.bit > 1,
+        4 => carries_payload(event.code) && call.payload.len() > MOST_BYTES as usize,
+        5 => cache_len < MOST_BYTES as usize,
+        6 => event.code == code::SC_HELLO && call.lists.too_long(),
+        _ => false,
+    }
+}
+
+/// Whether the fault of refusal `number` is present.
+pub fn fault(number: u32, record: &Record, call: &Call, cache_len: usize) -> bool {
+    match number {
+        7 => !record.well_formed(),
+        8 => record.number == u32::MAX && table::look_up(record, call).is_some(),
+        _ => argument_fault(number, call, cache_len),
+    }
+}
+
+/// "The lowest whose fault is present is given, else none."
+pub fn refusal(record: &Record, call: &Call, cache_len: usize) -> Option<u32> {
+    (1..=8).find(|&number| fault(number, record, call, cache_len))
+}
