@@ -128,27 +128,53 @@ fn running(c: &Connection) -> u32 {
         | u32::from(c.ack != 0) << 5
 }
 
+/// Of each state: the timers that run, those that may, and the greatest flag and bits. The flag is 1 in WAIT_FOR_ACK.
+struct Fit {
+    runs: u32,
+    may_run: u32,
+    most_flag: u32,
+    most_bit: u32,
+}
+
+const fn fit(runs: u32, may_run: u32, most_flag: u32, most_bit: u32) -> Fit {
+    Fit {
+        runs,
+        may_run,
+        most_flag,
+        most_bit,
+    }
+}
+
+const FITS: [Fit; 10] = [
+    fit(0b00_0000, 0, 0, 0),
+    fit(0b00_0001, 0, 0, 0),
+    fit(0b00_1110, 0, 1, 1),
+    fit(0b01_1010, 0, 1, 1),
+    fit(0b00_1100, 0, 1, 1),
+    fit(0b00_0011, 0b01_0000, 1, 1),
+    fit(0b00_0001, 0b01_0000, 1, 1),
+    fit(0b01_1000, 0, 0, 1),
+    fit(0b11_1000, 0, 1, 1),
+    fit(0b00_0000, 0, 0, 0),
+];
+
 fn well_formed(c: &Connection) -> bool {
-    let no_bits = c.next_send_bit | c.expected_bit | c.awaiting_ack == 0;
-    let by_state = match c.state {
-        0 => no_bits && c.handled == 0 && running(c) == 0,
-        1 => no_bits && running(c) == 0b00_0001,
-        2 => running(c) == 0b00_1110,
-        3 => running(c) == 0b01_1010,
-        4 => running(c) == 0b00_1100,
-        5 => running(c) & !0b01_0000 == 0b00_0011,
-        6 => running(c) & !0b01_0000 == 0b00_0001,
-        7 => c.awaiting_ack == 0 && running(c) == 0b01_1000,
-        8 => c.awaiting_ack == 1 && running(c) == 0b11_1000,
-        9 => no_bits && running(c) == 0,
-        _ => false,
+    let Some(fit) = FITS.get(c.state as usize) else {
+        return false;
     };
-    let highest = c.h.max(c.prover).max(c.verifier).max(c.dat).max(c.ra).max(c.ack);
-    by_state
-        && (c.awaiting_ack | c.next_send_bit | c.expected_bit) <= 1
-        && c.cached_len <= MAX_PAYLOAD as u32
-        && (c.cached_len == 0 || c.awaiting_ack == 1)
+    let highest =
+        c.h.max(c.prover)
+            .max(c.verifier)
+            .max(c.dat)
+            .max(c.ra)
+            .max(c.ack);
+    running(c) & !fit.may_run == fit.runs
+        && c.awaiting_ack <= fit.most_flag
+        && (c.next_send_bit | c.expected_bit) <= fit.most_bit
         && highest <= c.handled
+        && c.cached_len <= MAX_PAYLOAD as u32
+        && (c.awaiting_ack == 1 || (c.cached_len == 0 && c.state != 8))
+        && (c.state != 0 || c.handled == 0)
 }
 
 fn live(e: &Event, tag: u32) -> bool {
@@ -185,7 +211,11 @@ fn lock(c: &mut Connection, a: &mut Actions, n: u32, message: u32) {
     a.dat = end(c.dat);
     a.ra = end(c.ra);
     a.ack = end(c.ack);
-    *c = Connection { state: 9, handled: n, ..Connection::default() };
+    *c = Connection {
+        state: 9,
+        handled: n,
+        ..Connection::default()
+    };
 }
 
 macro_rules! next_number {
@@ -256,7 +286,11 @@ fn handshake_timeout(c: &mut Connection, e: &Event, a: &mut Actions) -> u32 {
 
 fn hello(c: &mut Connection, e: &Event, lists: &Lists, a: &mut Actions) -> u32 {
     if c.state != 1 {
-        return if e.verdict > 1 { WRONG_VERDICT } else { IGNORED };
+        return if e.verdict > 1 {
+            WRONG_VERDICT
+        } else {
+            IGNORED
+        };
     }
     let n = match c.handled.checked_add(1) {
         Some(n) => n,
@@ -291,7 +325,10 @@ fn hello(c: &mut Connection, e: &Event, lists: &Lists, a: &mut Actions) -> u32 {
 }
 
 fn first_common(verifiers: &[u32], provers: &[u32]) -> Option<u32> {
-    verifiers.iter().copied().find(|suite| provers.contains(suite))
+    verifiers
+        .iter()
+        .copied()
+        .find(|suite| provers.contains(suite))
 }
 
 fn good_seconds(e: &Event) -> u32 {
@@ -305,7 +342,11 @@ fn good_seconds(e: &Event) -> u32 {
 
 fn renew_token(c: &mut Connection, e: &Event, a: &mut Actions) -> u32 {
     if c.state != 5 && c.state != 6 {
-        return if e.verdict > 1 { WRONG_VERDICT } else { IGNORED };
+        return if e.verdict > 1 {
+            WRONG_VERDICT
+        } else {
+            IGNORED
+        };
     }
     let n = match c.handled.checked_add(1) {
         Some(n) => n,
@@ -366,7 +407,14 @@ fn prover_ok(c: &mut Connection, e: &Event, a: &mut Actions) -> u32 {
     HANDLED
 }
 
-fn send_report(c: &mut Connection, e: &Event, a: &mut Actions, tag: u32, message: u32, len: u32) -> u32 {
+fn send_report(
+    c: &mut Connection,
+    e: &Event,
+    a: &mut Actions,
+    tag: u32,
+    message: u32,
+    len: u32,
+) -> u32 {
     if !live(e, tag) {
         return IGNORED;
     }

@@ -1,36 +1,114 @@
-//! quick
-mod baseline;
-mod mixes;
-use menhotrac::raw::{self, Actions, Connection};
-use std::hint::black_box;
-use std::time::Instant;
+//! Measures the archive's step beside one in ordinary Rust and beside the model: the same calls, the programs in turn,
+//! the median of many rounds.
 
-fn run(step: impl Fn(&mut Connection, &raw::Event, &[u8], &raw::Lists, &mut [u8], &mut Actions) -> u32, mix: &mixes::Mix, payload: &[u8], cache: &mut [u8]) -> (Connection, u32, f64) {
-    let mut c = Connection::default();
-    let mut a = Actions::default();
-    let mut sum = 0u32;
-    let t = Instant::now();
-    for call in &mix.calls {
-        if let Some(b) = call.before { c = b; }
-        let r = step(&mut c, &call.event, &payload[..call.payload_len], &call.lists, &mut cache[..call.cache_len], black_box(&mut a));
-        sum = sum.wrapping_mul(31).wrapping_add(r).wrapping_add(a.message).wrapping_mul(31).wrapping_add(a.payload_len + a.ack + a.hp);
+#![forbid(unsafe_code)]
+
+mod baseline;
+mod engines;
+mod measure;
+mod mixes;
+
+use engines::{Archive, Baseline, Model};
+use measure::{median, replay, Lent};
+use mixes::Mix;
+use std::process::ExitCode;
+
+const HELP: &str = "\
+Measures the archive's step beside one in ordinary Rust and beside the model.
+
+  bench                     all mixes, medians of 301 rounds
+  bench MIX PROGRAM         ten replays of one mix by one program, archive or rust, for a tool that counts instructions
+  bench --help              this text
+
+Mixes: handshake, data-1, data-4096, re-attestation, ignored, refused.";
+
+const ROUNDS: usize = 301;
+const CALLS: usize = 3_000;
+const REPLAYS: usize = 10;
+
+/// Times of the three programs on one mix.
+fn compare_on(mix: &Mix, lent: &mut Lent) -> [f64; 3] {
+    let (mut archive, mut rust, mut model) =
+        (Archive::default(), Baseline::default(), Model::default());
+    let mut times = [vec![], vec![], vec![]];
+    for _ in 0..ROUNDS {
+        let round = [
+            replay(&mut archive, mix, lent),
+            replay(&mut rust, mix, lent),
+            replay(&mut model, mix, lent),
+        ];
+        assert_eq!(
+            round[0].seen, round[1].seen,
+            "{}: archive and ordinary Rust differ",
+            mix.name
+        );
+        assert_eq!(
+            round[0].seen, round[2].seen,
+            "{}: archive and model differ",
+            mix.name
+        );
+        for (all, one) in times.iter_mut().zip(&round) {
+            all.push(one.nanoseconds);
+        }
     }
-    let ns = t.elapsed().as_nanos() as f64 / mix.calls.len() as f64;
-    (c, sum, ns)
+    times.map(|mut all| median(&mut all))
 }
 
-fn main() {
-    let payload = vec![7u8; 4097];
-    let mut cache = vec![0u8; 4096];
-    for mix in mixes::all(3000) { if let Some(n) = std::env::args().nth(2) { if !mix.name.starts_with(&n) { continue } }
-        let mut x = vec![]; let mut y = vec![];
-        for _ in 0..std::env::args().nth(1).map_or(400, |s| s.parse().unwrap()) {
-            let (c1, s1, t1) = run(|c, e, p, l, k, a| raw::step(c, e, p, l, k, a), &mix, &payload, &mut cache);
-            let (c2, s2, t2) = run(|c, e, p, l, k, a| baseline::step(c, e, p, l, k, a), &mix, &payload, &mut cache);
-            assert_eq!((c1, s1), (c2, s2), "{}", mix.name);
-            x.push(t1); y.push(t2);
+fn report() {
+    println!(
+        "{:16} {:>12} {:>9} {:>9} {:>9} {:>10}",
+        "mix", "steps/s", "archive", "rust", "model", "archive to"
+    );
+    println!(
+        "{:16} {:>12} {:>9} {:>9} {:>9} {:>10}",
+        "", "of archive", "ns", "ns", "ns", "rust"
+    );
+    let mut lent = Lent::new();
+    for mix in mixes::all(CALLS) {
+        let [archive, rust, model] = compare_on(&mix, &mut lent);
+        let (rate, ratio) = (1e9 / archive, archive / rust);
+        println!(
+            "{:16} {rate:12.0} {archive:9.1} {rust:9.1} {model:9.1} {ratio:10.2}",
+            mix.name
+        );
+    }
+}
+
+/// Replays for a tool that counts; prints how many calls there were.
+fn count(mix: &Mix, program: &str) -> Result<usize, String> {
+    let mut lent = Lent::new();
+    for _ in 0..REPLAYS {
+        match program {
+            "archive" => replay(&mut Archive::default(), mix, &mut lent),
+            "rust" => replay(&mut Baseline::default(), mix, &mut lent),
+            _ => return Err(format!("there is no program \"{program}\"")),
+        };
+    }
+    Ok(REPLAYS * mix.calls.len())
+}
+
+fn run(words: &[String]) -> Result<(), String> {
+    match words {
+        [] => report(),
+        [word] if word == "--help" || word == "-h" => println!("{HELP}"),
+        [name, program] => {
+            let mixes = mixes::all(CALLS);
+            let mix = mixes.iter().find(|mix| mix.name == name);
+            let mix = mix.ok_or_else(|| format!("there is no mix \"{name}\""))?;
+            println!("{}", count(mix, program)?);
         }
-        x.sort_by(f64::total_cmp); y.sort_by(f64::total_cmp);
-        println!("{:20} {:6} calls archive {:7.2} ns  rust {:7.2} ns  ratio {:.2}", mix.name, mix.calls.len(), x[x.len()/2], y[y.len()/2], x[x.len()/2] / y[y.len()/2]);
+        _ => return Err("wrong arguments".into()),
+    }
+    Ok(())
+}
+
+fn main() -> ExitCode {
+    let words: Vec<String> = std::env::args().skip(1).collect();
+    match run(&words) {
+        Ok(()) => ExitCode::SUCCESS,
+        Err(sentence) => {
+            eprintln!("bench: {sentence}\n\n{HELP}");
+            ExitCode::from(2)
+        }
     }
 }

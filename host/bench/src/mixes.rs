@@ -1,26 +1,74 @@
-//! The sequences of calls that are measured, recorded once by running the baseline, since tags and bits depend on the
-//! record. Replayed from the same records, both programs get the same arguments.
+//! The sequences of calls that are measured. Tags and bits depend on the record, so each sequence is recorded once by
+//! running the model; replayed from the same records, all programs get the same arguments.
 
-use crate::baseline;
-use menhotrac::raw::{Actions, Connection, Event, Lists};
+use compare::translate;
+use menhotrac::raw::{Connection, Event, Lists};
+use model::{code, Record};
 
-pub const NOW: i64 = 1_000;
-pub const EXPIRY: i64 = 1_060;
+const NOW: i64 = 1_000;
+const EXPIRY: i64 = 1_060;
+const YES: u32 = 1;
 pub const CACHE_LEN: usize = 4096;
-pub const LISTS: Lists = Lists {
+const LISTS: Lists = Lists {
     our_verifiers: &[7, 3],
     peer_provers: &[3, 7],
     peer_verifiers: &[3],
     our_provers: &[3, 7],
 };
 
-/// One call of a mix. `before` replaces the record that the last call left.
+/// A record that replaces the one that the last call left, in both forms.
+pub struct Begin {
+    pub connection: Connection,
+    pub record: Record,
+}
+
+/// One call of a mix.
 pub struct Call {
-    pub before: Option<Connection>,
+    pub begin: Option<Begin>,
     pub event: Event,
     pub payload_len: usize,
     pub cache_len: usize,
     pub lists: Lists<'static>,
+}
+
+impl Call {
+    /// The call as the model takes it.
+    #[inline(always)]
+    pub fn modelled<'a>(&self, payload: &'a [u8]) -> model::Call<'a> {
+        let Event {
+            code,
+            tag,
+            timer,
+            bit,
+            verdict,
+            expiry,
+            now,
+        } = self.event;
+        let Lists {
+            our_verifiers,
+            peer_provers,
+            peer_verifiers,
+            our_provers,
+        } = self.lists;
+        model::Call {
+            event: model::Event {
+                code,
+                tag,
+                timer,
+                bit,
+                verdict: verdict == YES,
+                expiry,
+                now,
+            },
+            payload,
+            lists: model::Lists {
+                our_verifiers,
+                peer_provers,
+                peer_verifiers,
+                our_provers,
+            },
+        }
+    }
 }
 
 pub struct Mix {
@@ -30,8 +78,8 @@ pub struct Mix {
 
 /// Records calls and keeps the record that they leave.
 struct Recorder {
-    record: Connection,
-    begin: Option<Connection>,
+    record: Record,
+    begin: Option<Begin>,
     cache: Vec<u8>,
     payload: Vec<u8>,
     calls: Vec<Call>,
@@ -39,36 +87,47 @@ struct Recorder {
 
 impl Recorder {
     fn new() -> Recorder {
-        Recorder {
-            record: Connection::default(),
-            begin: Some(Connection::default()),
+        let mut recorder = Recorder {
+            record: Record::default(),
+            begin: None,
             cache: vec![0; CACHE_LEN],
             payload: vec![0; CACHE_LEN + 1],
             calls: Vec::new(),
-        }
+        };
+        recorder.begin_with(Record::fresh());
+        recorder
     }
 
     /// The next call begins with this record.
-    fn begin_with(&mut self, record: Connection) {
+    fn begin_with(&mut self, record: Record) {
         self.record = record;
-        self.begin = Some(record);
+        self.begin = Some(Begin {
+            connection: translate::connection(&record),
+            record,
+        });
+    }
+
+    fn call_with(
+        &mut self,
+        event: Event,
+        payload_len: usize,
+        cache_len: usize,
+        lists: Lists<'static>,
+    ) {
+        let call = Call {
+            begin: self.begin.take(),
+            event,
+            payload_len,
+            cache_len,
+            lists,
+        };
+        let modelled = call.modelled(&self.payload[..payload_len]);
+        (_, self.record, _) = model::step(&self.record, &modelled, &mut self.cache[..cache_len]);
+        self.calls.push(call);
     }
 
     fn call(&mut self, event: Event, payload_len: usize) {
         self.call_with(event, payload_len, CACHE_LEN, LISTS);
-    }
-
-    fn call_with(&mut self, event: Event, payload_len: usize, cache_len: usize, lists: Lists<'static>) {
-        let mut actions = Actions::default();
-        baseline::step(
-            &mut self.record,
-            &event,
-            &self.payload[..payload_len],
-            &lists,
-            &mut self.cache[..cache_len],
-            &mut actions,
-        );
-        self.calls.push(Call { before: self.begin.take(), event, payload_len, cache_len, lists });
     }
 
     fn plain(&mut self, code: u32) {
@@ -76,24 +135,45 @@ impl Recorder {
     }
 
     fn tagged(&mut self, code: u32, tag: u32) {
-        self.call(Event { code, tag, verdict: 1, expiry: EXPIRY, now: NOW, ..Event::default() }, 0);
+        self.call(
+            Event {
+                code,
+                tag,
+                verdict: YES,
+                expiry: EXPIRY,
+                now: NOW,
+                ..Event::default()
+            },
+            0,
+        );
     }
 
     fn bit(&mut self, code: u32, bit: u32, payload_len: usize) {
-        self.call(Event { code, bit, ..Event::default() }, payload_len);
+        self.call(
+            Event {
+                code,
+                bit,
+                ..Event::default()
+            },
+            payload_len,
+        );
     }
 
     fn prover_ok(&mut self) {
-        self.tagged(7, self.record.prover);
+        self.tagged(code::RA_PROVER_OK, self.record.prover);
     }
 
     fn verifier_ok(&mut self) {
-        self.tagged(4, self.record.verifier);
+        self.tagged(code::RA_VERIFIER_OK, self.record.verifier);
+    }
+
+    fn send(&mut self, payload_len: usize) {
+        self.bit(code::UPPER_SEND_DATA, 0, payload_len);
     }
 
     fn open(&mut self) {
-        self.plain(0);
-        self.plain(11);
+        self.plain(code::UPPER_START_HANDSHAKE);
+        self.plain(code::SC_HELLO);
     }
 
     fn establish(&mut self) {
@@ -103,7 +183,10 @@ impl Recorder {
     }
 
     fn into_mix(self, name: &'static str) -> Mix {
-        Mix { name, calls: self.calls }
+        Mix {
+            name,
+            calls: self.calls,
+        }
     }
 }
 
@@ -111,13 +194,27 @@ impl Recorder {
 fn handshake(laps: usize) -> Mix {
     let mut r = Recorder::new();
     for _ in 0..laps {
-        r.begin_with(Connection::default());
+        r.begin_with(Record::fresh());
         r.open();
         let (prover, verifier) = (r.record.prover, r.record.verifier);
-        r.call(Event { code: 9, tag: prover, ..Event::default() }, 64);
-        r.call(Event { code: 15, ..Event::default() }, 64);
-        r.call(Event { code: 6, tag: verifier, ..Event::default() }, 64);
-        r.call(Event { code: 16, ..Event::default() }, 64);
+        r.call(
+            Event {
+                code: code::RA_PROVER_MSG,
+                tag: prover,
+                ..Event::default()
+            },
+            64,
+        );
+        r.bit(code::SC_RA_PROVER, 0, 64);
+        r.call(
+            Event {
+                code: code::RA_VERIFIER_MSG,
+                tag: verifier,
+                ..Event::default()
+            },
+            64,
+        );
+        r.bit(code::SC_RA_VERIFIER, 0, 64);
         r.prover_ok();
         r.verifier_ok();
     }
@@ -130,9 +227,9 @@ fn data(name: &'static str, len: usize, laps: usize) -> Mix {
     r.establish();
     for _ in 0..laps {
         let (next, expected) = (r.record.next_send_bit, r.record.expected_bit);
-        r.call(Event { code: 2, ..Event::default() }, len);
-        r.bit(19, next, 0);
-        r.bit(18, expected, len);
+        r.send(len);
+        r.bit(code::SC_ACK, next, 0);
+        r.bit(code::SC_DATA, expected, len);
     }
     r.into_mix(name)
 }
@@ -141,20 +238,20 @@ fn data(name: &'static str, len: usize, laps: usize) -> Mix {
 fn re_attestation(laps: usize) -> Mix {
     let mut r = Recorder::new();
     r.establish();
-    r.call(Event { code: 2, ..Event::default() }, 64);
+    r.send(64);
     for _ in 0..laps {
-        r.plain(17);
+        r.plain(code::SC_RE_RA);
         r.prover_ok();
-        r.plain(3);
+        r.plain(code::UPPER_RE_RA);
         r.verifier_ok();
-        r.tagged(22, r.record.ra);
-        r.plain(14);
+        r.tagged(code::RA_TIMEOUT, r.record.ra);
+        r.plain(code::SC_DAT_EXPIRED);
         r.prover_ok();
         r.verifier_ok();
-        r.tagged(21, r.record.dat);
-        r.plain(13);
+        r.tagged(code::DAT_TIMEOUT, r.record.dat);
+        r.plain(code::SC_DAT);
         r.verifier_ok();
-        r.tagged(23, r.record.ack);
+        r.tagged(code::ACK_TIMEOUT, r.record.ack);
     }
     r.into_mix("re-attestation")
 }
@@ -163,16 +260,17 @@ fn re_attestation(laps: usize) -> Mix {
 fn ignored(laps: usize) -> Mix {
     let mut r = Recorder::new();
     r.establish();
-    r.call(Event { code: 2, ..Event::default() }, 64);
+    r.send(64);
+    let (next, expected) = (r.record.next_send_bit, r.record.expected_bit);
     for _ in 0..laps {
-        r.tagged(4, 2);
-        r.tagged(7, 2);
-        r.bit(18, 1 - r.record.expected_bit, 64);
-        r.bit(19, 1 - r.record.next_send_bit, 0);
-        r.tagged(23, 1);
-        r.plain(13);
-        r.call(Event { code: 15, ..Event::default() }, 64);
-        r.call(Event { code: 2, ..Event::default() }, 64);
+        r.tagged(code::RA_VERIFIER_OK, 2);
+        r.tagged(code::RA_PROVER_OK, 2);
+        r.bit(code::SC_DATA, 1 - expected, 64);
+        r.bit(code::SC_ACK, 1 - next, 0);
+        r.tagged(code::ACK_TIMEOUT, 1);
+        r.plain(code::SC_DAT);
+        r.bit(code::SC_RA_PROVER, 0, 64);
+        r.send(64);
     }
     r.into_mix("ignored")
 }
@@ -180,22 +278,42 @@ fn ignored(laps: usize) -> Mix {
 /// Each refusal from 1 to 8 in turn.
 fn refused(laps: usize) -> Mix {
     const TOO_LONG: &[u32] = &[1; 17];
+    let event = |code| Event {
+        code,
+        ..Event::default()
+    };
     let mut r = Recorder::new();
     r.establish();
     let good = r.record;
-    let event = |code| Event { code, ..Event::default() };
     for _ in 0..laps {
         r.begin_with(good);
         r.plain(24);
-        r.call(Event { timer: 3, ..event(20) }, 0);
-        r.bit(19, 2, 0);
-        r.call(event(2), CACHE_LEN + 1);
-        r.call_with(event(3), 0, CACHE_LEN - 1, LISTS);
-        r.call_with(event(11), 0, CACHE_LEN, Lists { our_provers: TOO_LONG, ..LISTS });
-        r.begin_with(Connection { ra: 0, ..good });
-        r.plain(3);
-        r.begin_with(Connection { handled: u32::MAX, ..good });
-        r.plain(3);
+        r.call(
+            Event {
+                timer: 3,
+                ..event(code::HANDSHAKE_TIMEOUT)
+            },
+            0,
+        );
+        r.bit(code::SC_ACK, 2, 0);
+        r.send(CACHE_LEN + 1);
+        r.call_with(event(code::UPPER_RE_RA), 0, CACHE_LEN - 1, LISTS);
+        r.call_with(
+            event(code::SC_HELLO),
+            0,
+            CACHE_LEN,
+            Lists {
+                our_provers: TOO_LONG,
+                ..LISTS
+            },
+        );
+        r.begin_with(Record { ra: 0, ..good });
+        r.plain(code::UPPER_RE_RA);
+        r.begin_with(Record {
+            number: u32::MAX,
+            ..good
+        });
+        r.plain(code::UPPER_RE_RA);
     }
     r.into_mix("refused")
 }
@@ -204,8 +322,8 @@ fn refused(laps: usize) -> Mix {
 pub fn all(calls: usize) -> Vec<Mix> {
     vec![
         handshake(calls / 8),
-        data("data, 1 byte", 1, calls / 3),
-        data("data, 4096 bytes", 4096, calls / 3),
+        data("data-1", 1, calls / 3),
+        data("data-4096", 4096, calls / 3),
         re_attestation(calls / 12),
         ignored(calls / 8),
         refused(calls / 8),

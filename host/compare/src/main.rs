@@ -14,11 +14,11 @@ mod options;
 mod session;
 mod spoilt;
 mod suite_lists;
-mod translate;
 mod trial;
 mod walk;
 mod well_formed;
 
+use compare::translate;
 use options::{Request, HELP};
 use std::io::Write;
 use std::process::ExitCode;

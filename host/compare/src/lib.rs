@@ -1,0 +1,5 @@
+//! What the comparison shares with the benchmark.
+
+#![forbid(unsafe_code)]
+
+pub mod translate;
