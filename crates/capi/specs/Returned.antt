@@ -2,29 +2,29 @@
 use Prim.Native.Nat.{ℕ}
 use mathlib.Core.List.{List}
 use Rattle.connection.specs.Also.{resultAlso}
-use Rattle.connection.specs.Flat.{numbersOf, recordIn, slotsOf}
+use Rattle.connection.specs.Flat.{recordIn, slotsOf}
 use Rattle.event.specs.Call.{callOf}
+use Rattle.record.specs.declared.Connection.{Connection}
 use Rattle.protocol.specs.Step.{Result}
 use Rattle.capi.specs.Answer.{answerNumber}
 use Rattle.capi.specs.Verdict.{refusedAs, eventOf}
 use Rattle.capi.specs.declared.FlatEvent.{FlatEvent}
 
--- Answer, record, order sheet, cache and payload part in numbers.
+-- The answer as a number, the record that the twelve numbers are, the sixteen slots of the order sheet, and the cache. The payload part is the one that the
+-- slots name.
 pub record Returned : Type 0 where
   pub answer : ℕ
-  pub connection : List ℕ
+  pub connection : Connection
   pub actions : List ℕ
   pub cache : List ℕ
-  pub part : List ℕ
 
--- A result in numbers.
+-- A result as it is returned.
 abbrev pub returnedOf : Result → Returned
 returnedOf result = record {
   answer = answerNumber (result .outcome .answer);
-  connection = numbersOf (result .outcome .connection);
+  connection = result .outcome .connection;
   actions = slotsOf (result .outcome .actions);
   cache = result .cache;
-  part = result .part;
 }
 
 -- What a call returns, by the arguments of `menhotrac_step`: the step's result; where the step refuses nothing, a wrong verdict is refused.

@@ -6,7 +6,7 @@ ghost use mathlib.Core.Path.{_≡_};
 ghost use Rattle.capi.specs.Choice.{chosenOf};
 ghost use Rattle.capi.specs.Returned.{returned};
 ghost use Rattle.capi.specs.Verdict.{eventOf, refusedAs, wrongVerdict};
-ghost use Rattle.connection.specs.Flat.{numbersOf};
+ghost use Rattle.connection.specs.Flat.{numbersOf, recordIn};
 ghost use Rattle.record.specs.WellFormed as spec;
 ghost use Rattle.suites.specs.Choice.{choice};
 ghost use Rattle.token.specs.SecondsLeft.{secondsLeft};
@@ -121,7 +121,7 @@ pub extern "C" fn menhotrac_step(
     our_provers: &[u32],
 ) -> u32
     ensures { λ r. ⌜ r ≡ returned (now (connection .entry)) event (now (payload .entry)) (now (cache .entry)) (now («our_verifiers» .entry)) (now («peer_provers» .entry)) (now («peer_verifiers» .entry)) (now («our_provers» .entry)) .answer ⌝ }
-    ensures { λ _. ⌜ now (connection .exit) ≡ returned (now (connection .entry)) event (now (payload .entry)) (now (cache .entry)) (now («our_verifiers» .entry)) (now («peer_provers» .entry)) (now («peer_verifiers» .entry)) (now («our_provers» .entry)) .connection ⌝ }
+    ensures { λ _. ⌜ recordIn (now (connection .exit)) ≡ returned (now (connection .entry)) event (now (payload .entry)) (now (cache .entry)) (now («our_verifiers» .entry)) (now («peer_provers» .entry)) (now («peer_verifiers» .entry)) (now («our_provers» .entry)) .connection ⌝ }
     ensures { λ _. ⌜ now (actions .exit) ≡ returned (now (connection .entry)) event (now (payload .entry)) (now (cache .entry)) (now («our_verifiers» .entry)) (now («peer_provers» .entry)) (now («peer_verifiers» .entry)) (now («our_provers» .entry)) .actions ⌝ }
     ensures { λ _. ⌜ now (cache .exit) ≡ returned (now (connection .entry)) event (now (payload .entry)) (now (cache .entry)) (now («our_verifiers» .entry)) (now («peer_provers» .entry)) (now («peer_verifiers» .entry)) (now («our_provers» .entry)) .cache ⌝ }
 {

@@ -7,6 +7,7 @@ use Prim.Native.Nat.{ℕ}
 use lib.Dec.{eqb}
 use lib.ListN.{length}
 use Rattle.record.specs.Limits.{limits}
+use Rattle.protocol.specs.Actions.{noActions}
 use Rattle.protocol.specs.Refusal.{refusal}
 use Rattle.event.specs.Call.{Call, inputOf}
 use Rattle.protocol.specs.Step.{refusalNumber, unchanged, handledTo, decided, stepOf, refusalOf, cacheAfter, resultOf}
@@ -16,6 +17,7 @@ use Rattle.protocol.specs.declared.Outcome.{Outcome}
 use Rattle.record.specs.declared.Connection.{Connection}
 use Rattle.event.specs.declared.Input.{Input}
 use Rattle.connection.specs.Also.{refusedAlso, resultAlso}
+use Rattle.connection.specs.Flat.{recordIn, slotsOf}
 use Rattle.connection.specs.Written.{Written, decidedAlso}
 use Rattle.protocol.proofs.Decided.{number-is}
 use Rattle.protocol.proofs.Stepped.{never-refused}
@@ -23,6 +25,11 @@ use Rattle.protocol.proofs.Stepped.{never-refused}
 -- What is written of an outcome is written of one that equals it.
 pub as-written : (o p : Outcome) (answer : Answer) (numbers slots : List ℕ) → o ≡ p → Written o answer numbers slots → Written p answer numbers slots
 as-written o p answer numbers slots = subst (λ (x : Outcome). Written x answer numbers slots)
+
+-- A call that changes nothing: the record is not written, and the sheet is empty.
+pub unmoved-written : (connection : Connection) (told answer : Answer) (numbers slots : List ℕ) → answer ≡ told → recordIn numbers ≡ connection → slots ≡ slotsOf noActions
+    → Written (unchanged told connection) answer numbers slots
+unmoved-written connection told answer numbers slots a r o = record { answered = a; record-left = r; ordered = o }
 
 module _ (also : ℕ) (connection : Connection) (code : ℕ) (input : Input) where
   -- The same of the step's own outcome, whose answer has the number of the refusal.

@@ -9,7 +9,7 @@ use Rattle.protocol.specs.declared.Actions.{Actions}
 use Rattle.protocol.specs.declared.Answer.{Answer}
 use Rattle.protocol.specs.declared.Outcome.{Outcome}
 use Rattle.record.specs.declared.Connection.{Connection}
-use Rattle.connection.specs.Flat.{bitOf, numbersOf, recordIn, slotsOf, actionsIn}
+use Rattle.connection.specs.Flat.{bitOf, recordIn, slotsOf, actionsIn}
 use Rattle.connection.specs.Written.{Written}
 
 bit-back : (b : Bool) → eqb (bitOf b) 1 ≡ b
@@ -43,6 +43,6 @@ pub back : (o : Outcome) (answer : Answer) (numbers slots : List ℕ) (connectio
     → actions ≡ actionsIn slots
     → _≡_ {A = Outcome} (record { answer = answer; connection = connection; actions = actions }) o
 back o answer numbers slots connection actions w e f =
-    let c = e ∙ ap recordIn (w .record-left) in
+    let c = e ∙ w .record-left in
     let a = f ∙ ap actionsIn (w .ordered) ∙ actions-back (o .actions) in
     λ i. record { answer = w .answered i; connection = c i; actions = a i }

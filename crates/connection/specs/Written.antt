@@ -12,12 +12,12 @@ use Rattle.protocol.specs.declared.Answer.the-variants.{Refused}
 use Rattle.protocol.specs.declared.Outcome.{Outcome}
 use Rattle.record.specs.declared.Connection.{Connection}
 use Rattle.event.specs.declared.Input.{Input}
-use Rattle.connection.specs.Flat.{numbersOf, slotsOf}
+use Rattle.connection.specs.Flat.{recordIn, slotsOf}
 
 -- An outcome, written in numbers.
 pub record Written (outcome : Outcome) (answer : Answer) (numbers slots : List ℕ) : Type 0 where
   pub answered : answer ≡ outcome .answer
-  pub record-left : numbers ≡ numbersOf (outcome .connection)
+  pub record-left : recordIn numbers ≡ outcome .connection
   pub ordered : slots ≡ slotsOf (outcome .actions)
 
 -- The outcome of the step, or the refusal `also`.

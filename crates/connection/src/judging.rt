@@ -3,21 +3,22 @@ ghost use mathlib.Core.Path.{_≡_};
 ghost use mathlib.Core.Bool.{cond, not};
 ghost use mathlib.Core.List.{_∷_, [], _++_};
 ghost use lib.Dec.{eqb};
+ghost use Rattle.connection.specs.Flat.{recordIn, slotsOf};
 ghost use Rattle.connection.specs.Written.{Written, decidedAlso};
 ghost use Rattle.record.specs.Limits.{limits};
 ghost use Rattle.protocol.specs.Faults.{firstFault, argumentFaults};
-ghost use Rattle.protocol.specs.Step.{unchanged};
+ghost use Rattle.protocol.specs.Actions.{noActions};
 ghost use Rattle.protocol.specs.declared.Answer.the-variants.{Ignored, Refused};
 ghost use Rattle.record.specs.WellFormed.{wellFormed};
 use crate::condition::holds;
 use crate::flat::put;
+use crate::flat::slots_of;
 use crate::moving::move_on;
 use event::Input;
 use event::timers;
 use moves::NO_ACTIONS;
 use moves::lock;
 use protocol::Answer;
-use protocol::Outcome;
 use protocol::refusals;
 use record::Connection;
 use record::well_formed;
@@ -39,27 +40,24 @@ pub(crate) fn decide(
     code: u32,
     input: Input,
 ) -> Answer
+    requires { ⌜ recordIn (now numbers) ≡ connection ⌝ }
     ensures { λ r. ⌜ Written (decidedAlso also connection code input) r (now (numbers .exit)) (now (slots .exit)) ⌝ }
 {
     let fault = lowest_fault(connection, code, input);
     if fault != refusals::NONE {
-        return put(numbers, slots, unmoved(Answer::Refused(fault), connection));
+        return unmoved(slots, Answer::Refused(fault));
     }
     let held = holds(connection, code, input);
     let to = next_state(connection.state, connection.awaiting_ack, code, held);
     if to == IGNORED {
-        return put(numbers, slots, unmoved(ignored_unless(also), connection));
+        return unmoved(slots, ignored_unless(also));
     }
     let handled = connection.handled;
     if handled == MAX_HANDLED {
-        return put(
-            numbers,
-            slots,
-            unmoved(Answer::Refused(refusals::NUMBER_EXHAUSTED), connection),
-        );
+        return unmoved(slots, Answer::Refused(refusals::NUMBER_EXHAUSTED));
     }
     if also != refusals::NONE {
-        return put(numbers, slots, unmoved(Answer::Refused(also), connection));
+        return unmoved(slots, Answer::Refused(also));
     }
     let number = handled + 1;
     if to == states::CLOSED_LOCKED {
@@ -78,15 +76,13 @@ fn ignored_unless(also: u32) -> Answer
     Answer::Ignored
 }
 
-// Refused or ignored: the same record, no actions.
-fn unmoved(answer: Answer, connection: Connection) -> Outcome
-    ensures { λ r. ⌜ r ≡ unchanged answer connection ⌝ }
+// Refused or ignored: no actions, and the record is not written.
+fn unmoved(slots: &mut [u32; 16], answer: Answer) -> Answer
+    ensures { λ r. ⌜ r ≡ answer ⌝ }
+    ensures { λ _. ⌜ now (slots .exit) ≡ slotsOf noActions ⌝ }
 {
-    Outcome {
-        answer,
-        connection,
-        actions: NO_ACTIONS,
-    }
+    *slots = slots_of(NO_ACTIONS);
+    answer
 }
 
 // The lowest refusal from 1 to 7 whose fault is present, 0 if none is.

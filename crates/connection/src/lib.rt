@@ -8,7 +8,7 @@ ghost use Rattle.protocol.specs.Block.{partOf};
 ghost use Rattle.event.specs.Call.{callOf};
 ghost use Rattle.protocol.specs.Step.{refusalNumber, refusalOf, resultOf};
 ghost use Rattle.connection.specs.Also.{resultAlso};
-ghost use Rattle.connection.specs.Flat.{numbersOf, recordIn, slotsOf};
+ghost use Rattle.connection.specs.Flat.{recordIn, slotsOf};
 ghost use lib.ListN.{length};
 
 mod block;
@@ -100,7 +100,7 @@ pub fn step_flat(
     slots: &mut [u32; 16],
 ) -> Answer
     ensures { λ r. ⌜ r ≡ resultAlso also (recordIn (now (numbers .entry))) (callOf event (now (payload .entry)) (now («our_verifiers» .entry)) (now («peer_provers» .entry)) (now («peer_verifiers» .entry)) (now («our_provers» .entry))) (now (cache .entry)) .outcome .answer ⌝ }
-    ensures { λ _. ⌜ now (numbers .exit) ≡ numbersOf (resultAlso also (recordIn (now (numbers .entry))) (callOf event (now (payload .entry)) (now («our_verifiers» .entry)) (now («peer_provers» .entry)) (now («peer_verifiers» .entry)) (now («our_provers» .entry))) (now (cache .entry)) .outcome .connection) ⌝ }
+    ensures { λ _. ⌜ recordIn (now (numbers .exit)) ≡ resultAlso also (recordIn (now (numbers .entry))) (callOf event (now (payload .entry)) (now («our_verifiers» .entry)) (now («peer_provers» .entry)) (now («peer_verifiers» .entry)) (now («our_provers» .entry))) (now (cache .entry)) .outcome .connection ⌝ }
     ensures { λ _. ⌜ now (slots .exit) ≡ slotsOf (resultAlso also (recordIn (now (numbers .entry))) (callOf event (now (payload .entry)) (now («our_verifiers» .entry)) (now («peer_provers» .entry)) (now («peer_verifiers» .entry)) (now («our_provers» .entry))) (now (cache .entry)) .outcome .actions) ⌝ }
     ensures { λ _. ⌜ now (cache .exit) ≡ resultAlso also (recordIn (now (numbers .entry))) (callOf event (now (payload .entry)) (now («our_verifiers» .entry)) (now («peer_provers» .entry)) (now («peer_verifiers» .entry)) (now («our_provers» .entry))) (now (cache .entry)) .cache ⌝ }
 {

@@ -4,7 +4,7 @@ use Prim.Native.Nat.{ℕ}
 use denote.Ref.{now}
 use borrow.Author.Needs.{needs}
 use Rattle.connection.specs.Also.{resultAlso}
-use Rattle.connection.specs.Flat.{numbersOf, recordIn, slotsOf}
+use Rattle.connection.specs.Flat.{recordIn, slotsOf}
 use Rattle.event.specs.Call.{callOf}
 use Rattle.event.specs.declared.Event.{Event}
 use Rattle.protocol.specs.Step.{Result}
@@ -32,7 +32,7 @@ returns c =
     let e = s .step-flat .ensures in (
       c .number-of .ensures ∙ ap answerNumber (e .0) ∙ ap (λ (r : Result). answerNumber (r .outcome .answer)) (of-event s),
       (
-        e .1 .0 ∙ ap (λ (r : Result). numbersOf (r .outcome .connection)) (of-event s),
+        e .1 .0 ∙ ap (λ (r : Result). r .outcome .connection) (of-event s),
         (e .1 .1 .0 ∙ ap (λ (r : Result). slotsOf (r .outcome .actions)) (of-event s), e .1 .1 .1 ∙ ap (λ (r : Result). r .cache) (of-event s)),
       ),
     )

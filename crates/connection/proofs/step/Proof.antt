@@ -40,7 +40,7 @@ unfolding before call cache resultOf
 returns c =
     let s = c .before .before .before .before .before .before in
     let e = s .step-flat .ensures in (
-      back _ _ _ _ _ _ (record { answered = e .0; record-left = e .1 .0; ordered = e .1 .1 .0 }) (c .before .before .record-in .ensures) (c .actions-in .ensures) ∙ ap (λ (r : Result). r .outcome) (is-result s),
+      back _ _ (s .step-flat .last .0) _ _ _ (record { answered = e .0; record-left = e .1 .0; ordered = e .1 .1 .0 }) (c .before .before .record-in .ensures) (c .actions-in .ensures) ∙ ap (λ (r : Result). r .outcome) (is-result s),
       (
         ap refusalNumber (e .0) ∙ ap (λ (r : Result). refusalNumber (r .outcome .answer)) (is-result s) ∙
             number-is limits (before s) (call s .event .code) (inputOf limits (call s) (length (cache s))),

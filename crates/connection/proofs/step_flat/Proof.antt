@@ -15,7 +15,7 @@ use Rattle.record.specs.declared.Connection.{Connection}
 use Rattle.event.specs.declared.Input.{Input}
 use Rattle.event.specs.declared.Suites.{Suites}
 use Rattle.connection.specs.Also.{resultAlso}
-use Rattle.connection.specs.Flat.{numbersOf, recordIn, slotsOf}
+use Rattle.connection.specs.Flat.{recordIn, slotsOf}
 use Rattle.connection.specs.Written.{Written, decidedAlso}
 use Rattle.connection.proofs.Also.{as-written, outcome-also, cache-also, handled-by-step}
 use Rattle.connection.proofs.Cache.{room-for, kept, written, unwritten}
@@ -55,7 +55,7 @@ module _ (d : tie.After-decide) where
 
   -- Answer, record and actions as they are promised, with the cache.
   module _ (numbers slots after : List ℕ) (w : Written (decidedAlso also (d .before .before .before .record-in .result) (call .event .code) (d .before .before .before .before .before .read .result)) (d .decide .result) numbers slots) (c : after ≡ resultAlso also before call cache .cache) where
-    promised : (d .decide .result ≡ resultAlso also before call cache .outcome .answer) × ((numbers ≡ numbersOf (resultAlso also before call cache .outcome .connection)) × ((slots ≡ slotsOf (resultAlso also before call cache .outcome .actions)) × (after ≡ resultAlso also before call cache .cache)))
+    promised : (d .decide .result ≡ resultAlso also before call cache .outcome .answer) × ((recordIn numbers ≡ resultAlso also before call cache .outcome .connection) × ((slots ≡ slotsOf (resultAlso also before call cache .outcome .actions)) × (after ≡ resultAlso also before call cache .cache)))
     promised =
         let v = as-written _ _ (d .decide .result) numbers slots (decides ∙ outcome-also also before call cache) w in
         (v .answered, (v .record-left, (v .ordered, c)))
@@ -93,7 +93,7 @@ step-flat-spec =
     (λ c κs. search needs)
     (λ c κs. search needs)
     (λ c κs. search needs)
-    (λ c κs. search needs)
+    (λ c κs. sym (c .before .before .record-in .ensures))
     (λ c. search needs)
     returns
     store-requires

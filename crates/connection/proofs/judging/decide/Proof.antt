@@ -8,12 +8,11 @@ use borrow.Author.Needs.{needs}
 use borrow.Author.Tests.{eq-eqb, ne-eqb, ltb-false, not-false}
 use Rattle.record.specs.Limits.{limits}
 use Rattle.protocol.specs.Condition.{nextState}
-use Rattle.protocol.specs.Step.{handledTo, decided, unchanged}
-use Rattle.protocol.specs.declared.Answer.{Answer}
+use Rattle.protocol.specs.Step.{handledTo, decided}
 use Rattle.table.specs.Table.{cell, settled}
 use Rattle.record.specs.WellFormed.{wellFormed}
 use Rattle.protocol.proofs.Decided as judged
-use Rattle.connection.proofs.Also.{as-written, refused-also, ignored-also, refused-by-also, handled-also}
+use Rattle.connection.proofs.Also.{as-written, unmoved-written, refused-also, ignored-also, refused-by-also, handled-also}
 use Rattle.moves.proofs.Effects.{is-moving, by-event, by-locking}
 use Rattle.connection.proofs.judging.decide.Statement.{statement}
 use Rattle.connection.proofs.judging.decide.Tie as tie
@@ -25,35 +24,32 @@ next-is c = let a = c .before .before .before .before .args in c .next-state .en
 
 returns : tie.Need-returns
 returns c =
-    let low = c .before .before .before .before .before .lowest-fault in
-    let a = c .before .before .before .before .before .before .args in
-    let some = ne-eqb (low .result) 0 (c .before .before .before .before .if1 .taken) in
+    let low = c .before .before .before .lowest-fault in
+    let a = c .before .before .before .before .args in
+    let some = ne-eqb (low .result) 0 (c .before .before .if1 .taken) in
     as-written _ _ _ _ _
-    (c .before .unmoved .ensures ∙
-    refused-also (a .also) (a .connection) (a .code) (a .input) (low .result) some (judged.refused limits (a .connection) (a .code) (a .input) (low .result) _ _ (low .ensures) refl refl some))
-    (c .put .ensures)
+    (refused-also (a .also) (a .connection) (a .code) (a .input) (low .result) some (judged.refused limits (a .connection) (a .code) (a .input) (low .result) _ _ (low .ensures) refl refl some))
+    (unmoved-written _ _ _ _ _ (c .unmoved .ensures .0) (c .before .before .before .before .pre) (c .unmoved .ensures .1))
 
 returns-2 : tie.Need-returns-2
 returns-2 c =
-    let n = c .before .before .before .before .before .before in
+    let n = c .before .before .before .before in
     let a = n .before .before .before .before .args in
     let low = n .before .before .before .lowest-fault in
     as-written _ _ _ _ _
-    (c .before .unmoved2 .ensures ∙ ap (λ (x : Answer). unchanged x (a .connection)) (c .before .before .ignored-unless .ensures) ∙
-    ignored-also (a .also) (a .connection) (a .code) (a .input)
-    (judged.ignored limits (a .connection) (a .code) (a .input) (low .result) (n .next-state .result) _ (low .ensures) (next-is n) refl (n .before .before .if1 .left) (c .before .before .before .before .before .if2 .taken)))
-    (c .put2 .ensures)
+    (ignored-also (a .also) (a .connection) (a .code) (a .input)
+    (judged.ignored limits (a .connection) (a .code) (a .input) (low .result) (n .next-state .result) _ (low .ensures) (next-is n) refl (n .before .before .if1 .left) (c .before .before .before .if2 .taken)))
+    (unmoved-written _ _ _ _ _ (c .unmoved2 .ensures .0 ∙ c .before .ignored-unless .ensures) (n .before .before .before .before .pre) (c .unmoved2 .ensures .1))
 
 returns-3 : tie.Need-returns-3
 returns-3 c =
-    let n = c .before .before .before .before .before .before in
+    let n = c .before .before .before .before in
     let a = n .before .before .before .before .args in
     let low = n .before .before .before .lowest-fault in
     as-written _ _ _ _ _
-    (c .before .unmoved3 .ensures ∙
-    refused-also (a .also) (a .connection) (a .code) (a .input) 8 refl
-    (judged.refused-full limits (a .connection) (a .code) (a .input) (low .result) (n .next-state .result) true (low .ensures) (next-is n) (eq-eqb (a .connection .handled) 4294967295 (c .before .before .before .before .if3 .taken)) (n .before .before .if1 .left) (ne-eqb (n .next-state .result) 11 (c .before .before .before .before .before .if2 .left)) refl))
-    (c .put3 .ensures)
+    (refused-also (a .also) (a .connection) (a .code) (a .input) 8 refl
+    (judged.refused-full limits (a .connection) (a .code) (a .input) (low .result) (n .next-state .result) true (low .ensures) (next-is n) (eq-eqb (a .connection .handled) 4294967295 (c .before .before .if3 .taken)) (n .before .before .if1 .left) (ne-eqb (n .next-state .result) 11 (c .before .before .before .if2 .left)) refl))
+    (unmoved-written _ _ _ _ _ (c .unmoved3 .ensures .0) (n .before .before .before .before .pre) (c .unmoved3 .ensures .1))
 
 -- Where no lower fault is present, the code is known and the record is well formed.
 known : (n : tie.After-next-state) → n .before .before .before .before .args .code < 24
@@ -80,12 +76,11 @@ goes e =
 
 returns-4 : tie.Need-returns-4
 returns-4 c =
-    let e = c .before .before .before .before .before in
+    let e = c .before .before .before in
     let a = e .before .before .before .before .before .before .args in
     as-written _ _ _ _ _
-    (c .before .unmoved4 .ensures ∙
-    refused-by-also (a .also) (a .connection) (a .code) (a .input) (e .before .before .next-state .result) (goes e) (ne-eqb (a .also) 0 (c .before .before .before .before .if4 .taken)))
-    (c .put4 .ensures)
+    (refused-by-also (a .also) (a .connection) (a .code) (a .input) (e .before .before .next-state .result) (goes e) (ne-eqb (a .also) 0 (c .before .before .if4 .taken)))
+    (unmoved-written _ _ _ _ _ (c .unmoved4 .ensures .0) (e .before .before .before .before .before .before .pre) (c .unmoved4 .ensures .1))
 
 returns-5 : tie.Need-returns-5
 returns-5 c =
@@ -95,7 +90,7 @@ returns-5 c =
     (c .before .lock .ensures ∙ by-locking (a .connection) (a .code) (a .input) ∙
     ap (λ (t : ℕ). handledTo t (a .connection) (a .code) (a .input)) (sym (c .before .before .before .before .if5 .taken)) ∙
     handled-also (a .also) (a .connection) (a .code) (a .input) (e .before .before .next-state .result) (goes e) (c .before .before .before .before .before .if4 .left))
-    (c .put5 .ensures)
+    (c .put .ensures)
 
 move-on-requires : tie.Need-move-on-requires
 move-on-requires c κs =
@@ -119,18 +114,14 @@ decide-spec =
     (tie.spec
     (λ c κs. search needs)
     (λ c κs. search needs)
-    (λ c κs. search needs)
     returns
-    (λ c κs. search needs)
     (λ c κs. search needs)
     (λ c κs. search needs)
     (λ c κs. search needs)
     (λ c κs. search needs)
     returns-2
     (λ c κs. search needs)
-    (λ c κs. search needs)
     returns-3
-    (λ c κs. search needs)
     (λ c κs. search needs)
     returns-4
     (λ c. search needs)
