@@ -2,3 +2,4 @@ pub mod Answer
 pub mod Choice
 pub mod Verdict
 pub mod Returned
+pub mod Host

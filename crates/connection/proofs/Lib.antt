@@ -1,3 +1,3 @@
-mod Also
+pub mod Also
 mod Cache
 mod ReadBack

@@ -1,0 +1,56 @@
+-- Demand 3 at the C face.
+-- Assumes nothing.
+use mathlib.Core.Path.{_≡_, refl, ap, _∙_}
+use mathlib.Core.Bool.{Bool, false, cond}
+use mathlib.Core.List.{List, [], _∷_}
+use mathlib.Core.Option.{none}
+use Prim.Native.Nat.{ℕ}
+use lib.ListN.{length}
+use Rattle.connection.specs.Also.{resultAlso}
+use Rattle.connection.specs.Flat.{recordIn}
+use Rattle.protocol.specs.Agreement.{AllAgree}
+use Rattle.protocol.specs.History.{first}
+use Rattle.protocol.specs.Run.{resultsOf}
+use Rattle.protocol.specs.Step.{Result, resultOf}
+use Rattle.record.specs.Limits.{limits}
+use Rattle.record.specs.WellFormed.{fresh}
+use Rattle.record.specs.declared.Connection.{Connection}
+use Rattle.capi.specs.Host.{FlatCall, callIn, callsIn, AllRight, Got, Holds, AllPromised, AllShow}
+use Rattle.capi.specs.Returned.{Returned, returned, returnedOf}
+use Rattle.capi.specs.Verdict.{refusedVerdict, wrongVerdict}
+use Rattle.connection.proofs.Also.{none-also}
+use Rattle.protocol.proofs.Agreement.{demand3}
+
+-- A call with a right verdict returns the step's result.
+right : (numbers cache : List ℕ) (call : FlatCall) → wrongVerdict (call .event) ≡ false
+    → returned numbers (call .event) (call .payload) cache (call .ourVerifiers) (call .peerProvers) (call .peerVerifiers) (call .ourProvers) ≡ returnedOf (resultOf limits (recordIn numbers) (callIn call) cache)
+unfolding returned
+right numbers cache call e =
+    ap (λ (b : Bool). returnedOf (resultAlso (cond b refusedVerdict 0) (recordIn numbers) (callIn call) cache)) e ∙
+    ap returnedOf (none-also (recordIn numbers) (callIn call) cache)
+
+holds-same : (got : Got) (a b : Returned) → a ≡ b → Holds got a → Holds got b
+holds-same got a b e h = record {
+  answered = h .answered ∙ ap (λ (r : Returned). r .answer) e;
+  record-left = h .record-left ∙ ap (λ (r : Returned). r .connection) e;
+  ordered = h .ordered ∙ ap (λ (r : Returned). r .actions) e;
+  cache-left = h .cache-left ∙ ap (λ (r : Returned). r .cache) e;
+}
+
+-- What a host got, from numbers and a cache that are those of a record and a cache.
+shown : (connection : Connection) (held numbers cache : List ℕ) (calls : List FlatCall) (got : List Got) → recordIn numbers ≡ connection → cache ≡ held
+    → AllRight calls → AllPromised numbers cache calls got → AllShow got (resultsOf limits connection held (callsIn calls))
+unfolding AllPromised AllShow resultsOf
+shown connection held numbers cache [] [] r k a p = tt
+shown connection held numbers cache [] (g ∷ more) r k a p = absurd p
+shown connection held numbers cache (call ∷ calls) [] r k a p = absurd p
+shown connection held numbers cache (call ∷ calls) (g ∷ more) r k a p =
+    let result = resultOf limits connection (callIn call) held in
+    let same = right numbers cache call (a .0) ∙ (λ i. returnedOf (resultOf limits (r i) (callIn call) (k i))) in
+    let h = holds-same g _ (returnedOf result) same (p .0) in
+    (h, shown (result .outcome .connection) (result .cache) (g .numbers) (g .cache) calls more (h .record-left) (h .cache-left) (a .1) (p .1))
+
+-- From a fresh record, what a host in C got over a list of calls are the numbers of results that agree with the history.
+pub c-host-agrees : (numbers cache : List ℕ) (calls : List FlatCall) (got : List Got) → recordIn numbers ≡ fresh → AllRight calls → AllPromised numbers cache calls got
+    → AllShow got (resultsOf limits fresh cache (callsIn calls)) × AllAgree limits (length cache) first none (callsIn calls) (resultsOf limits fresh cache (callsIn calls))
+c-host-agrees numbers cache calls got r a p = (shown fresh cache numbers cache calls got r refl a p, demand3 limits cache (callsIn calls))

@@ -1,0 +1,65 @@
+-- Demand 3 at the C face: what a host in C gets over a list of calls are the numbers of the results that demand 3 speaks of.
+use Prim.Native.Nat.{ℕ}
+use mathlib.Core.Path.{_≡_}
+use mathlib.Core.Bool.{false}
+use mathlib.Core.List.{List, [], _∷_}
+use Rattle.connection.specs.Flat.{recordIn}
+use Rattle.event.specs.Call.{Call, callOf}
+use Rattle.protocol.specs.Step.{Result}
+use Rattle.capi.specs.Returned.{Returned, returned, returnedOf}
+use Rattle.capi.specs.Verdict.{wrongVerdict, eventOf}
+use Rattle.capi.specs.declared.FlatEvent.{FlatEvent}
+
+-- One call of a host in C, without record and cache.
+pub record FlatCall : Type 0 where
+  pub event : FlatEvent
+  pub payload : List ℕ
+  pub ourVerifiers : List ℕ
+  pub peerProvers : List ℕ
+  pub peerVerifiers : List ℕ
+  pub ourProvers : List ℕ
+
+-- The calls of document 01 that they are.
+abbrev pub callIn : FlatCall → Call
+callIn call =
+    callOf (eventOf (call .event)) (call .payload) (call .ourVerifiers) (call .peerProvers) (call .peerVerifiers) (call .ourProvers)
+
+-- The same for a list of calls.
+abbrev pub callsIn : List FlatCall → List Call
+callsIn [] = []
+callsIn (call ∷ calls) = callIn call ∷ callsIn calls
+
+-- No verdict is wrong. A call with a wrong one is refused and changes nothing: it is no call of the run.
+abbrev pub AllRight : List FlatCall → Type 0
+AllRight [] = Unit {0}
+AllRight (call ∷ calls) = (wrongVerdict (call .event) ≡ false) × AllRight calls
+
+-- What the host holds after a call: the answer, the numbers of record and actions, and the cache.
+pub record Got : Type 0 where
+  pub answer : ℕ
+  pub numbers : List ℕ
+  pub slots : List ℕ
+  pub cache : List ℕ
+
+-- It is what a call returns.
+pub record Holds (got : Got) (gives : Returned) : Type 0 where
+  pub answered : got .answer ≡ gives .answer
+  pub record-left : recordIn (got .numbers) ≡ gives .connection
+  pub ordered : got .slots ≡ gives .actions
+  pub cache-left : got .cache ≡ gives .cache
+
+-- What the contract of `menhotrac_step` promises over a list of calls, each given the numbers and the cache that the last one left.
+unfoldable pub AllPromised : (numbers cache : List ℕ) → List FlatCall → List Got → Type 0
+AllPromised numbers cache [] [] = Unit {0}
+AllPromised numbers cache [] (got ∷ more) = ⊥
+AllPromised numbers cache (call ∷ calls) [] = ⊥
+AllPromised numbers cache (call ∷ calls) (got ∷ more) =
+    Holds got (returned numbers (call .event) (call .payload) cache (call .ourVerifiers) (call .peerProvers) (call .peerVerifiers) (call .ourProvers))
+    × AllPromised (got .numbers) (got .cache) calls more
+
+-- What it got are the numbers of these results, one by one.
+unfoldable pub AllShow : List Got → List Result → Type 0
+AllShow [] [] = Unit {0}
+AllShow [] (result ∷ results) = ⊥
+AllShow (got ∷ more) [] = ⊥
+AllShow (got ∷ more) (result ∷ results) = Holds got (returnedOf result) × AllShow more results
