@@ -1,4 +1,4 @@
--- Demand 3 at the C face.
+-- Demand 3 at the interface for C.
 -- Assumes nothing.
 use mathlib.Core.Path.{_≡_, refl, ap, _∙_}
 use mathlib.Core.Bool.{Bool, false, cond}

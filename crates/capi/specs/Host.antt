@@ -1,4 +1,4 @@
--- Demand 3 at the C face: what a host in C gets over a list of calls are the numbers of the results that demand 3 speaks of.
+-- Demand 3 at the interface for C: what a host in C gets over a list of calls are the numbers of the results that demand 3 speaks of.
 use Prim.Native.Nat.{ℕ}
 use mathlib.Core.Path.{_≡_}
 use mathlib.Core.Bool.{false}

@@ -1,9 +1,9 @@
 // The suite choice in numbers.
 ghost use mathlib.Core.Path.{_≡_};
 ghost use Rattle.capi.specs.Choice.{chosenOf};
-ghost use Rattle.connection.specs.Flat.{bitOf};
+ghost use Rattle.connection.specs.Flat.{asNumber};
 ghost use Rattle.suites.specs.Numbers.{answerOf, foundOf};
-use connection::flat::bit_of;
+use connection::flat::as_number;
 use connection::refusals;
 use suites::Choice;
 use suites::Common;
@@ -37,12 +37,12 @@ pub(crate) fn numbers_in(choice: Choice) -> [u32; 4]
 }
 
 fn found(common: Common) -> u32
-    ensures { λ r. ⌜ r ≡ bitOf (foundOf common .found) ⌝ }
+    ensures { λ r. ⌜ r ≡ asNumber (foundOf common .found) ⌝ }
 {
     let Common::Suite(_) = common else {
-        return bit_of(false);
+        return as_number(false);
     };
-    bit_of(true)
+    as_number(true)
 }
 
 fn number(common: Common) -> u32

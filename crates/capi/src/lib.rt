@@ -1,7 +1,7 @@
 // The connection step, the token's time and the suite choice for hosts in C and Rust.
 //
-// Structs are lent as numbers in a fixed order; the header `menhotrac.h` names them. The host lends every slice and
-// keeps nothing of the library's.
+// Record, actions and choice are lent as numbers in a fixed order; the header `menhotrac.h` names them. The host owns
+// all memory, and the library keeps none of it.
 ghost use mathlib.Core.Path.{_≡_};
 ghost use Rattle.capi.specs.Choice.{chosenOf};
 ghost use Rattle.capi.specs.Returned.{returned};

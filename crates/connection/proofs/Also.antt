@@ -8,17 +8,16 @@ use lib.Dec.{eqb}
 use lib.ListN.{length}
 use Rattle.record.specs.Limits.{limits}
 use Rattle.protocol.specs.Actions.{noActions}
-use Rattle.protocol.specs.Refusal.{refusal}
 use Rattle.event.specs.Call.{Call, inputOf}
-use Rattle.protocol.specs.Step.{refusalNumber, unchanged, handledTo, decided, stepOf, refusalOf, cacheAfter, resultOf}
+use Rattle.protocol.specs.Step.{refusalNumber, unchanged, handledTo, decided, stepOf, refusalOf, cacheAfter, resultWith, resultOf}
 use Rattle.protocol.specs.declared.Answer.{Answer}
 use Rattle.protocol.specs.declared.Answer.the-variants.{Handled, Ignored, Refused}
 use Rattle.protocol.specs.declared.Outcome.{Outcome}
 use Rattle.record.specs.declared.Connection.{Connection}
 use Rattle.event.specs.declared.Input.{Input}
-use Rattle.connection.specs.Also.{refusedAlso, resultAlso}
+use Rattle.connection.specs.Also.{decidedAlso, resultAlso}
 use Rattle.connection.specs.Flat.{recordIn, slotsOf}
-use Rattle.connection.specs.Written.{Written, decidedAlso}
+use Rattle.connection.specs.Written.{Written}
 use Rattle.protocol.proofs.Decided.{number-is}
 use Rattle.protocol.proofs.Stepped.{never-refused}
 
@@ -60,43 +59,22 @@ module _ (also : ℕ) (connection : Connection) (code : ℕ) (input : Input) whe
     pub handled-also : also ≡ 0 → handledTo to connection code input ≡ decidedAlso also connection code input
     handled-also a = (rw a) ∙ also-of (handledTo to connection code input) e
 
--- The whole result of a call.
-module _ (also : ℕ) (connection : Connection) (call : Call) (cache : List ℕ) where
-  abbrev known : Outcome
-  known = decidedAlso also connection (call .event .code) (inputOf limits call (length cache))
-
-  abbrev refuses : Bool
-  refuses = eqb (refusalOf limits connection call (length cache)) 0 && not (eqb also 0)
-
-  pub outcome-also : known ≡ resultAlso also connection call cache .outcome
-  unfolding decidedAlso resultOf
-  outcome-also = by-refusal refuses
-    where
-      by-refusal : (b : Bool) → cond b (unchanged (Refused also) connection) (stepOf limits connection call (length cache)) ≡ cond b (refusedAlso also connection cache) (resultOf limits connection call cache) .outcome
-      by-refusal true = refl
-      by-refusal false = refl
-
-  pub cache-also : cacheAfter (known .answer) call cache ≡ resultAlso also connection call cache .cache
-  unfolding decidedAlso resultOf
-  cache-also = by-refusal refuses
-    where
-      by-refusal : (b : Bool) → cacheAfter (cond b (unchanged (Refused also) connection) (stepOf limits connection call (length cache)) .answer) call cache ≡ cond b (refusedAlso also connection cache) (resultOf limits connection call cache) .cache
-      by-refusal true = refl
-      by-refusal false = refl
-
-  -- A call that is handled is handled by the step.
-  pub handled-by-step : known .answer ≡ Handled → stepOf limits connection call (length cache) .answer ≡ Handled
-  unfolding decidedAlso
-  handled-by-step = by-refusal refuses
-    where
-      by-refusal : (b : Bool) → cond b (unchanged (Refused also) connection) (stepOf limits connection call (length cache)) .answer ≡ Handled → stepOf limits connection call (length cache) .answer ≡ Handled
-      by-refusal true e = absurd (never-refused also e)
-      by-refusal false e = e
+-- A call that is handled is handled by the step.
+pub handled-by-step : (also : ℕ) (connection : Connection) (call : Call) (cache : List ℕ) → decidedAlso also connection (call .event .code) (inputOf limits call (length cache)) .answer ≡ Handled
+    → stepOf limits connection call (length cache) .answer ≡ Handled
+unfolding decidedAlso
+handled-by-step also connection call cache = by-refusal (eqb (refusalOf limits connection call (length cache)) 0 && not (eqb also 0))
+  where
+    by-refusal : (b : Bool) → cond b (unchanged (Refused also) connection) (stepOf limits connection call (length cache)) .answer ≡ Handled → stepOf limits connection call (length cache) .answer ≡ Handled
+    by-refusal true e = absurd (never-refused also e)
+    by-refusal false e = e
 
 -- Without a fault of the interface it is the step's result.
 pub none-also : (connection : Connection) (call : Call) (cache : List ℕ) → resultAlso 0 connection call cache ≡ resultOf limits connection call cache
-none-also connection call cache = by-refusal (eqb (refusalOf limits connection call (length cache)) 0)
+unfolding resultAlso decidedAlso resultOf
+none-also connection call cache =
+    ap (λ (o : Outcome). resultWith o (call .payload) (cacheAfter (o .answer) call cache)) (by-refusal (eqb (refusalOf limits connection call (length cache)) 0))
   where
-    by-refusal : (b : Bool) → cond (b && false) (refusedAlso 0 connection cache) (resultOf limits connection call cache) ≡ resultOf limits connection call cache
+    by-refusal : (b : Bool) → cond (b && false) (unchanged (Refused 0) connection) (stepOf limits connection call (length cache)) ≡ stepOf limits connection call (length cache)
     by-refusal true = refl
     by-refusal false = refl

@@ -9,12 +9,12 @@ use Rattle.protocol.specs.declared.Actions.{Actions}
 use Rattle.protocol.specs.declared.Answer.{Answer}
 use Rattle.protocol.specs.declared.Outcome.{Outcome}
 use Rattle.record.specs.declared.Connection.{Connection}
-use Rattle.connection.specs.Flat.{bitOf, recordIn, slotsOf, actionsIn}
+use Rattle.connection.specs.Flat.{asNumber, recordIn, slotsOf, actionsIn}
 use Rattle.connection.specs.Written.{Written}
 
-bit-back : (b : Bool) → eqb (bitOf b) 1 ≡ b
-bit-back true = refl
-bit-back false = refl
+number-back : (b : Bool) → eqb (asNumber b) 1 ≡ b
+number-back true = refl
+number-back false = refl
 
 actions-back : (a : Actions) → actionsIn (slotsOf a) ≡ a
 actions-back a = λ i. record {
@@ -29,7 +29,7 @@ actions-back a = λ i. record {
   ack = a .ack;
   «dat_seconds» = a .«dat_seconds»;
   bit = a .bit;
-  deliver = bit-back (a .deliver) i;
+  deliver = number-back (a .deliver) i;
   «verifier_suite» = a .«verifier_suite»;
   «prover_suite» = a .«prover_suite»;
   «payload_slice» = a .«payload_slice»;

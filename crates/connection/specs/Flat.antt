@@ -8,8 +8,8 @@ use Rattle.protocol.specs.declared.Actions.{Actions}
 use Rattle.record.specs.declared.Connection.{Connection}
 
 -- Yes or no as a number.
-abbrev pub bitOf : Bool → ℕ
-bitOf held = cond held 1 0
+abbrev pub asNumber : Bool → ℕ
+asNumber held = cond held 1 0
 
 -- The fields of a record, in document 01's order.
 abbrev pub numbersOf : Connection → List ℕ
@@ -59,7 +59,7 @@ slotsOf actions =
     ∷ actions .ack
     ∷ actions .«dat_seconds»
     ∷ actions .bit
-    ∷ bitOf (actions .deliver)
+    ∷ asNumber (actions .deliver)
     ∷ actions .«verifier_suite»
     ∷ actions .«prover_suite»
     ∷ actions .«payload_slice»

@@ -1,18 +1,20 @@
 // Record and actions as numbers in a fixed order, as a host in C holds them.
 ghost use mathlib.Core.Path.{_≡_};
-ghost use Rattle.connection.specs.Flat.{actionsIn, bitOf, numbersOf, recordIn, slotsOf};
+ghost use Rattle.connection.specs.Flat.{actionsIn, asNumber, numbersOf, recordIn, slotsOf};
 ghost use Rattle.connection.specs.Written.{Written};
 use protocol::Actions;
 use protocol::Answer;
 use protocol::Outcome;
 use record::Connection;
 
-pub fn bit_of(yes: bool) -> u32
-    ensures { λ r. ⌜ r ≡ bitOf yes ⌝ }
+// 1 for yes, 0 for no.
+pub fn as_number(yes: bool) -> u32
+    ensures { λ r. ⌜ r ≡ asNumber yes ⌝ }
 {
     if yes { 1 } else { 0 }
 }
 
+// The record that twelve numbers are.
 pub fn record_in(numbers: &[u32; 12]) -> Connection
     ensures { λ r. ⌜ r ≡ recordIn (now (numbers .entry)) ⌝ }
 {
@@ -32,6 +34,7 @@ pub fn record_in(numbers: &[u32; 12]) -> Connection
     }
 }
 
+// The numbers of a record.
 pub fn numbers_of(connection: Connection) -> [u32; 12]
     ensures { λ r. ⌜ r ≡ numbersOf connection ⌝ }
 {
@@ -51,6 +54,7 @@ pub fn numbers_of(connection: Connection) -> [u32; 12]
     ]
 }
 
+// The slots of an order sheet.
 pub fn slots_of(actions: Actions) -> [u32; 16]
     ensures { λ r. ⌜ r ≡ slotsOf actions ⌝ }
 {
@@ -66,7 +70,7 @@ pub fn slots_of(actions: Actions) -> [u32; 16]
         actions.ack,
         actions.dat_seconds,
         actions.bit,
-        bit_of(actions.deliver),
+        as_number(actions.deliver),
         actions.verifier_suite,
         actions.prover_suite,
         actions.payload_slice,
@@ -74,6 +78,7 @@ pub fn slots_of(actions: Actions) -> [u32; 16]
     ]
 }
 
+// The order sheet that sixteen numbers are.
 pub(crate) fn actions_in(slots: &[u32; 16]) -> Actions
     ensures { λ r. ⌜ r ≡ actionsIn (now (slots .entry)) ⌝ }
 {
@@ -98,7 +103,7 @@ pub(crate) fn actions_in(slots: &[u32; 16]) -> Actions
 }
 
 // Writes an outcome and gives its answer. Each event does so in its own arm: an outcome that is handed on through
-// several functions is spilt and copied at each.
+// several functions is copied at each.
 pub(crate) fn put(numbers: &mut [u32; 12], slots: &mut [u32; 16], outcome: Outcome) -> Answer
     ensures { λ r. ⌜ Written outcome r (now (numbers .exit)) (now (slots .exit)) ⌝ }
 {

@@ -28,7 +28,7 @@ pub use event::Event;
 use event::choose_suites;
 use event::read;
 pub use event::timers;
-pub use moves::NO_ACTIONS;
+use moves::NO_ACTIONS;
 pub use protocol::Actions;
 pub use protocol::Answer;
 pub use protocol::Outcome;

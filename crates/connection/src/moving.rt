@@ -53,40 +53,37 @@ pub(crate) fn move_on(
     match code {
         UPPER_START_HANDSHAKE => put(numbers, slots, start_handshake(before, input, to, number)),
         UPPER_SEND_DATA => put(numbers, slots, send_data(before, input, to, number)),
-        UPPER_RE_RA | RA_TIMEOUT => {
-            let asked = code == UPPER_RE_RA;
-            put(
-                numbers,
-                slots,
-                verify_again(before, asked, input, to, number),
-            )
-        }
+        UPPER_RE_RA => put(
+            numbers,
+            slots,
+            verify_again(before, true, input, to, number),
+        ),
         RA_VERIFIER_OK => put(numbers, slots, verifier_ok(before, input, to, number)),
+        RA_VERIFIER_MSG => put(numbers, slots, send_report(before, true, input, to, number)),
         RA_PROVER_OK => put(numbers, slots, prover_ok(before, input, to, number)),
-        RA_VERIFIER_MSG | RA_PROVER_MSG => {
-            let of_verifier = code == RA_VERIFIER_MSG;
-            put(
-                numbers,
-                slots,
-                send_report(before, of_verifier, input, to, number),
-            )
-        }
+        RA_PROVER_MSG => put(
+            numbers,
+            slots,
+            send_report(before, false, input, to, number),
+        ),
         SC_HELLO => put(numbers, slots, open_connection(before, input, to, number)),
         SC_DAT => put(numbers, slots, renew_token(before, input, to, number)),
-        SC_DAT_EXPIRED | SC_RE_RA => {
-            let expired = code == SC_DAT_EXPIRED;
-            put(
-                numbers,
-                slots,
-                prove_again(before, expired, input, to, number),
-            )
-        }
-        // One arm each: as one they would compile to a range, and `_` to two parts.
+        SC_DAT_EXPIRED => put(numbers, slots, prove_again(before, true, input, to, number)),
         SC_RA_PROVER => put(numbers, slots, pass_on(before, true, input, to, number)),
         SC_RA_VERIFIER => put(numbers, slots, pass_on(before, false, input, to, number)),
+        SC_RE_RA => put(
+            numbers,
+            slots,
+            prove_again(before, false, input, to, number),
+        ),
         SC_DATA => put(numbers, slots, receive_data(before, input, to, number)),
         SC_ACK => put(numbers, slots, receive_ack(before, input, to, number)),
         DAT_TIMEOUT => put(numbers, slots, expire_token(before, input, to, number)),
+        RA_TIMEOUT => put(
+            numbers,
+            slots,
+            verify_again(before, false, input, to, number),
+        ),
         // ACK_TIMEOUT: no other event moves on.
         _ => put(numbers, slots, repeat_data(before, input, to, number)),
     }

@@ -1,4 +1,4 @@
--- The step event by event, as the code has it. No definition rests on this file: private functions promise it,
+-- The step event by event, as the code has it. No definition of the step rests on this file: the functions of this crate promise it,
 -- and the proofs show that it is what the rules say.
 use Prim.Native.Nat.{ℕ}
 use mathlib.Core.Bool.{true, false, cond}

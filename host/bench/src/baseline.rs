@@ -64,6 +64,19 @@ pub fn step(
     if !well_formed(c) {
         return 7;
     }
+    take(c, e, payload, lists, cache, a)
+}
+
+/// What becomes of an event whose call has none of the faults 1 to 7.
+#[inline(always)]
+fn take(
+    c: &mut Connection,
+    e: &Event,
+    payload: &[u8],
+    lists: &Lists,
+    cache: &mut [u8],
+    a: &mut Actions,
+) -> u32 {
     let len = payload.len() as u32;
     match e.code {
         0 => start_handshake(c, a),

@@ -26,30 +26,28 @@ const ROUNDS: usize = 301;
 const CALLS: usize = 3_000;
 const REPLAYS: usize = 10;
 
-/// Times of the three programs on one mix.
+/// Times of the three programs on one mix. Each round begins with the next program, so that none always follows the
+/// same one.
 fn compare_on(mix: &Mix, lent: &mut Lent) -> [f64; 3] {
     let (mut archive, mut rust, mut model) =
         (Archive::default(), Baseline::default(), Model::default());
     let mut times = [vec![], vec![], vec![]];
+    let mut order = [0, 1, 2];
     for _ in 0..ROUNDS {
-        let round = [
-            replay(&mut archive, mix, lent),
-            replay(&mut rust, mix, lent),
-            replay(&mut model, mix, lent),
-        ];
-        assert_eq!(
-            round[0].seen, round[1].seen,
-            "{}: archive and ordinary Rust differ",
-            mix.name
-        );
-        assert_eq!(
-            round[0].seen, round[2].seen,
-            "{}: archive and model differ",
-            mix.name
-        );
-        for (all, one) in times.iter_mut().zip(&round) {
-            all.push(one.nanoseconds);
+        let mut seen = [None; 3];
+        for program in order {
+            let replay = match program {
+                0 => replay(&mut archive, mix, lent),
+                1 => replay(&mut rust, mix, lent),
+                _ => replay(&mut model, mix, lent),
+            };
+            times[program].push(replay.nanoseconds);
+            seen[program] = Some(replay.seen);
         }
+        let name = mix.name;
+        assert_eq!(seen[0], seen[1], "{name}: archive and ordinary Rust differ");
+        assert_eq!(seen[0], seen[2], "{name}: archive and model differ");
+        order.rotate_left(1);
     }
     times.map(|mut all| median(&mut all))
 }

@@ -15,6 +15,10 @@ const LISTS: Lists = Lists {
     peer_verifiers: &[3],
     our_provers: &[3, 7],
 };
+const TOO_LONG: Lists = Lists {
+    our_provers: &[1; 17],
+    ..LISTS
+};
 
 /// A record that replaces the one that the last call left, in both forms.
 pub struct Begin {
@@ -277,7 +281,6 @@ fn ignored(laps: usize) -> Mix {
 
 /// Each refusal from 1 to 8 in turn.
 fn refused(laps: usize) -> Mix {
-    const TOO_LONG: &[u32] = &[1; 17];
     let event = |code| Event {
         code,
         ..Event::default()
@@ -285,28 +288,18 @@ fn refused(laps: usize) -> Mix {
     let mut r = Recorder::new();
     r.establish();
     let good = r.record;
+    let no_timer = Event {
+        timer: 3,
+        ..event(code::HANDSHAKE_TIMEOUT)
+    };
     for _ in 0..laps {
         r.begin_with(good);
         r.plain(24);
-        r.call(
-            Event {
-                timer: 3,
-                ..event(code::HANDSHAKE_TIMEOUT)
-            },
-            0,
-        );
+        r.call(no_timer, 0);
         r.bit(code::SC_ACK, 2, 0);
         r.send(CACHE_LEN + 1);
         r.call_with(event(code::UPPER_RE_RA), 0, CACHE_LEN - 1, LISTS);
-        r.call_with(
-            event(code::SC_HELLO),
-            0,
-            CACHE_LEN,
-            Lists {
-                our_provers: TOO_LONG,
-                ..LISTS
-            },
-        );
+        r.call_with(event(code::SC_HELLO), 0, CACHE_LEN, TOO_LONG);
         r.begin_with(Record { ra: 0, ..good });
         r.plain(code::UPPER_RE_RA);
         r.begin_with(Record {
@@ -328,4 +321,70 @@ pub fn all(calls: usize) -> Vec<Mix> {
         ignored(calls / 8),
         refused(calls / 8),
     ]
+}
+
+#[cfg(test)]
+mod tests {
+    use super::{all, Mix, CACHE_LEN};
+    use crate::engines::{Archive, Baseline, Engine, Model};
+    use crate::measure::{replay, Lent};
+    use menhotrac::raw::{HANDLED, IGNORED};
+
+    const CALLS: usize = 240;
+
+    /// Calls that establish, and those with a block sent after them.
+    const ESTABLISHING: usize = 4;
+    const SENDING: usize = 5;
+
+    /// What the mix's name says of its call at a place, counted from 0. The calls that set it up are handled.
+    fn wanted(name: &str, place: usize) -> u32 {
+        match name {
+            "handshake" | "data-1" | "data-4096" | "re-attestation" => HANDLED,
+            "ignored" if place < SENDING => HANDLED,
+            "ignored" => IGNORED,
+            "refused" if place < ESTABLISHING => HANDLED,
+            "refused" => (place - ESTABLISHING) as u32 % 8 + 1,
+            _ => panic!("nothing is said of the mix {name}"),
+        }
+    }
+
+    fn check_answers(engine: &mut impl Engine, program: &str, mix: &Mix) {
+        let payload = vec![7; CACHE_LEN + 1];
+        let mut cache = vec![0; CACHE_LEN];
+        for (place, call) in mix.calls.iter().enumerate() {
+            if let Some(begin) = &call.begin {
+                engine.begin(begin);
+            }
+            let payload = &payload[..call.payload_len];
+            let (answer, _) = engine.step(call, payload, &mut cache[..call.cache_len]);
+            let (name, code) = (mix.name, call.event.code);
+            assert_eq!(
+                answer,
+                wanted(name, place),
+                "{program}, {name}, call {place} with event {code}"
+            );
+        }
+    }
+
+    #[test]
+    fn calls_are_answered_as_the_name_says() {
+        for mix in all(CALLS) {
+            assert!(mix.calls.len() >= CALLS, "{}", mix.name);
+            check_answers(&mut Archive::default(), "archive", &mix);
+            check_answers(&mut Baseline::default(), "rust", &mix);
+            check_answers(&mut Model::default(), "model", &mix);
+        }
+    }
+
+    #[test]
+    fn programs_compute_the_same() {
+        let mut lent = Lent::new();
+        for mix in all(CALLS) {
+            let archive = replay(&mut Archive::default(), &mix, &mut lent);
+            let rust = replay(&mut Baseline::default(), &mix, &mut lent);
+            let model = replay(&mut Model::default(), &mix, &mut lent);
+            assert_eq!(archive.seen, rust.seen, "{}", mix.name);
+            assert_eq!(archive.seen, model.seen, "{}", mix.name);
+        }
+    }
 }

@@ -38,7 +38,7 @@ impl Arguments<'_> {
         }
     }
 
-    /// The fault of the C face's own refusal.
+    /// The fault that only the interface for C refuses.
     pub fn wrong_verdict(&self) -> bool {
         carries_token(self.event.code) && self.event.verdict > 1
     }

@@ -7,13 +7,13 @@ mod alone;
 mod arbitrary;
 mod arguments;
 mod coverage;
-mod crew;
 mod difference;
 mod draw;
 mod options;
 mod session;
 mod spoilt;
 mod suite_lists;
+mod threads;
 mod trial;
 mod walk;
 mod well_formed;
@@ -34,7 +34,7 @@ fn main() -> ExitCode {
             say(HELP);
             ExitCode::SUCCESS
         }
-        Ok(Request::Compare(options)) => match crew::compare(&options) {
+        Ok(Request::Compare(options)) => match threads::compare(&options) {
             Ok(summary) => {
                 say(&summary);
                 ExitCode::SUCCESS

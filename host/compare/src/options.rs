@@ -4,7 +4,7 @@ pub const HELP: &str = "\
 Gives random calls to the model of document 01 and to the archive, and compares
 answer, record, actions, payload part and cache after each.
 
-  --calls N     how many calls, at least 1 (default 5000000)
+  --calls N     how many calls, at least 1 (default 6000000)
   --seed S      where the random numbers begin (default 1)
   --threads T   how many threads share the calls, 1 to 256 (default 1)
   --help        this text
@@ -33,7 +33,7 @@ pub enum Request {
 /// Reads the arguments; a mistake in them comes back as a sentence.
 pub fn read(mut words: impl Iterator<Item = String>) -> Result<Request, String> {
     let mut options = Options {
-        calls: 5_000_000,
+        calls: 6_000_000,
         seed: 1,
         threads: 1,
     };
@@ -66,10 +66,20 @@ pub fn read(mut words: impl Iterator<Item = String>) -> Result<Request, String> 
 
 #[cfg(test)]
 mod tests {
-    use super::{read, Options, Request};
+    use super::{read, Options, Request, HELP};
 
     fn of(line: &str) -> Result<Request, String> {
         read(line.split_whitespace().map(String::from))
+    }
+
+    #[test]
+    fn has_defaults_that_step_five_million_times() {
+        let Ok(Request::Compare(options)) = of("") else {
+            panic!("no arguments are not read");
+        };
+        assert_eq!((options.seed, options.threads), (1, 1));
+        assert!(options.calls / 20 * 19 >= 5_000_000);
+        assert!(HELP.contains(&format!("(default {})", options.calls)));
     }
 
     #[test]

@@ -93,13 +93,13 @@ impl Sides {
         Err(self.difference(what, record, arguments, &model, &product))
     }
 
-    /// The model's record after the call, its sheet and its outcome; the C
-    /// face's own refusal comes after all of the paper's.
+    /// The model's record after the call, its sheet and its outcome; what only
+    /// the interface for C refuses comes after all of the paper's refusals.
     fn ask_model(&mut self, record: &Record, arguments: &Arguments) -> (Record, Sheet, Outcome) {
         let call = arguments.call();
-        let face_refuses =
+        let interface_refuses =
             arguments.wrong_verdict() && refusal(record, &call, arguments.cache_len).is_none();
-        let (answer, after, sheet) = if face_refuses {
+        let (answer, after, sheet) = if interface_refuses {
             (WRONG_VERDICT, *record, Sheet::default())
         } else {
             let cache = &mut self.model[..arguments.cache_len];

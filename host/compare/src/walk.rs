@@ -6,7 +6,7 @@ use crate::draw;
 use crate::session::{Checked, Session};
 use crate::trial::{part, Outcome, Sides};
 use menhotrac::raw::{self, HANDLED, IGNORED, WRONG_VERDICT};
-use model::{code, message, Answer, Foretold, Notes, Record};
+use model::{code, message, Answer, Notes, Predicted, Record};
 
 /// Events that can only lock. They are drawn rarely, so that runs get deep.
 const LOCKING: [u32; 6] = [
@@ -96,13 +96,13 @@ impl Walk {
         }
     }
 
-    /// Compares the archive's outcome with what the notes foretell.
+    /// Compares the archive's outcome with what the notes predict.
     fn ask_notes(&mut self, arguments: &Arguments, outcome: &Outcome) -> Checked<()> {
         let call = arguments.call();
-        let foretold = self.notes.hear(&call, arguments.cache_len);
+        let predicted = self.notes.hear(&call, arguments.cache_len);
         let actions = &outcome.actions;
         let bytes = part(actions, arguments.payload, self.sides.cache(arguments)).unwrap_or(&[]);
-        let came = Foretold {
+        let came = Predicted {
             answer: match outcome.answer {
                 HANDLED => Answer::Handled,
                 IGNORED => Answer::Ignored,
@@ -113,12 +113,12 @@ impl Walk {
             data: (actions.message == message::DATA).then_some((actions.bit, bytes)),
             ack: (actions.message == message::ACK).then_some(actions.bit),
             delivered: (actions.deliver != 0).then_some(bytes),
-            guarded: foretold.guarded,
+            guarded: predicted.guarded,
         };
         let moves = came.data.is_some() || came.ack.is_some() || came.delivered.is_some();
-        let what = if came != foretold {
-            "the notes foretold something else"
-        } else if moves && !foretold.guarded {
+        let what = if came != predicted {
+            "the notes predicted something else"
+        } else if moves && !predicted.guarded {
             "data moved unguarded"
         } else {
             return Ok(());
@@ -127,7 +127,7 @@ impl Walk {
         Err(Difference::new(
             what,
             &given,
-            [("notes", &foretold), ("archive", &came)],
+            [("notes", &predicted), ("archive", &came)],
         ))
     }
 

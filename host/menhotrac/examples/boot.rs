@@ -27,7 +27,7 @@ const RUN: [Event; 10] = [
         lists: LISTS,
     },
     Event::RaProverOk(Tag(2)),
-    // The verifier's tag is 2: this report is none of its, and is ignored.
+    // The verifier was started with tag 2: a report with tag 1 is ignored.
     Event::RaVerifierOk(Tag(1)),
     Event::RaVerifierOk(Tag(2)),
     Event::UpperSendData(&[1, 2, 3, 4, 5]),

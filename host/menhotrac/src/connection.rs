@@ -96,8 +96,8 @@ impl Connection {
     }
 }
 
-/// The refusal with a number. The archive gives 1 to 8 here; any other number would mean that it does not belong to
-/// these bindings, as would refusal 1.
+/// The refusal with a number. The archive gives 4 to 8 here, since typed events cannot have the faults 1 to 3 or 41;
+/// any other number means that archive and bindings do not belong together.
 #[cold]
 fn refusal(number: u32) -> Refusal {
     Refusal::from_number(number).unwrap_or(Refusal::UnknownCode)

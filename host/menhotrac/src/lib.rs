@@ -37,7 +37,9 @@
 //!
 //!     fn carry_out(&mut self, actions: &Actions) {
 //!         if let Some(message) = actions.message {
-//!             self.sent.push((message, actions.part.to_vec()));
+//!             // The part that comes with an ACK is for the application.
+//!             let bytes: &[u8] = if actions.deliver { &[] } else { actions.part };
+//!             self.sent.push((message, bytes.to_vec()));
 //!         }
 //!         if actions.prover == Some(DriverOrder::Start) {
 //!             self.prover = actions.tag;

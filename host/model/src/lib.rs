@@ -23,7 +23,7 @@ mod token;
 mod turn;
 
 pub use call::{carries_token, code, Call, Event};
-pub use notes::{Foretold, Notes};
+pub use notes::{Notes, Predicted};
 pub use orders::{driver, message, part, slice, timer, Sheet};
 pub use record::{Record, MOST_BYTES};
 pub use refusal::{fault, refusal};

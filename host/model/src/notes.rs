@@ -1,6 +1,6 @@
-//! "The five notes": what a listener foretells who hears every call but never
-//! sees the record or the cache's bytes. It shares with the step only what
-//! arguments mean, and knows no state but in [`Notes::state`].
+//! "The five notes", kept from the calls' arguments and the cache's length
+//! alone. They share with the step only what arguments mean, and name no state
+//! but in [`Notes::state`].
 
 use crate::call::{code, Call};
 use crate::refusal::argument_fault;
@@ -74,7 +74,7 @@ pub struct Notes {
 
 /// What the notes say of the call just heard.
 #[derive(Clone, Copy, Debug, PartialEq, Eq)]
-pub struct Foretold<'a> {
+pub struct Predicted<'a> {
     pub answer: Answer,
     pub state: u32,
     pub number: u32,
@@ -94,8 +94,8 @@ impl Notes {
         Notes::default()
     }
 
-    /// Hears a call and the length of its cache, and foretells the answer.
-    pub fn hear<'a>(&'a mut self, call: &Call<'a>, cache_len: usize) -> Foretold<'a> {
+    /// Takes a call and the length of its cache, and predicts the answer.
+    pub fn hear<'a>(&'a mut self, call: &Call<'a>, cache_len: usize) -> Predicted<'a> {
         let trusted_before = self.trusted();
         let answer = self.answer(call, cache_len);
         if answer == Answer::Handled {
@@ -104,7 +104,7 @@ impl Notes {
         let this = |event: u32| answer == Answer::Handled && call.event.code == event;
         let sends = this(code::UPPER_SEND_DATA) || this(code::ACK_TIMEOUT);
         let hands_up = this(code::SC_DATA);
-        Foretold {
+        Predicted {
             answer,
             state: self.state(),
             number: self.counted,
@@ -244,7 +244,7 @@ impl Notes {
         self.block.waiting = false;
     }
 
-    /// The state read off the notes, their only meeting with its numbers.
+    /// The state that the notes give; only here do they use its numbers.
     fn state(&self) -> u32 {
         let prover_runs = self.prover == Attestation::Running;
         let verifier_runs = self.verifier == Attestation::Running;

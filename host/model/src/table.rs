@@ -5,7 +5,7 @@ use crate::record::Record;
 use crate::timers::Timer;
 use Cell::{Either, No, Stay, To};
 
-/// A line of the table. The first five are the sentences above it.
+/// A row of the table. The first five are the sentences above it.
 #[derive(Clone, Copy, Debug, PartialEq, Eq)]
 pub(crate) enum Row {
     Start,
@@ -33,7 +33,7 @@ pub(crate) enum Row {
     Repeat,
 }
 
-/// What a state does with a line's event.
+/// What a state does with a row's event.
 #[derive(Clone, Copy)]
 enum Cell {
     /// "-": ignored.
@@ -45,47 +45,48 @@ enum Cell {
     To(u32),
 }
 
-struct Line {
+/// What the table holds in a row.
+struct Entries {
     row: Row,
     events: &'static [u32],
     /// One cell for each of the states 0 to 8; "state 9 ignores all".
     cells: [Cell; 9],
 }
 
-const fn line(row: Row, events: &'static [u32], cells: [Cell; 9]) -> Line {
-    Line { row, events, cells }
+const fn entries(row: Row, events: &'static [u32], cells: [Cell; 9]) -> Entries {
+    Entries { row, events, cells }
 }
 
 #[rustfmt::skip]
-const TABLE: [Line; 23] = [
-    //                                     0      1      2      3       4       5      6      7      8
-    line(Row::Start,           &[0],      [To(1), No,    No,    No,     No,     No,    No,    No,    No]),
-    line(Row::GoodHello,       &[11],     [No,    To(2), No,    No,     No,     No,    No,    No,    No]),
-    line(Row::BadHello,        &[11],     [No,    To(9), No,    No,     No,     No,    No,    No,    No]),
-    line(Row::Close,           &[1, 20],  [No,    To(9), To(9), To(9),  To(9),  To(9), To(9), To(9), To(9)]),
-    line(Row::Lost,            &[10, 12], [No,    To(9), To(9), To(9),  To(9),  To(9), To(9), To(9), To(9)]),
-    line(Row::ProverOk,        &[7],      [No,    No,    To(4), Either, No,     To(6), No,    No,    No]),
-    line(Row::VerifierOk,      &[4],      [No,    No,    To(3), No,     Either, No,    No,    No,    No]),
-    line(Row::ProverFailed,    &[8],      [No,    No,    To(9), To(9),  No,     To(9), No,    No,    No]),
-    line(Row::VerifierFailed,  &[5],      [No,    No,    To(9), No,     To(9),  No,    No,    No,    No]),
-    line(Row::ProverMessage,   &[9],      [No,    No,    Stay,  Stay,   No,     Stay,  No,    No,    No]),
-    line(Row::VerifierMessage, &[6],      [No,    No,    Stay,  No,     Stay,   No,    No,    No,    No]),
-    line(Row::DatAsked,        &[14],     [No,    No,    Stay,  Stay,   To(2),  Stay,  To(5), To(3), To(3)]),
-    line(Row::ReRaAsked,       &[17],     [No,    No,    Stay,  Stay,   To(2),  Stay,  To(5), To(3), To(3)]),
-    line(Row::GoodDat,         &[13],     [No,    No,    No,    No,     No,     To(2), To(4), No,    No]),
-    line(Row::BadDat,          &[13],     [No,    No,    No,    No,     No,     To(9), To(9), No,    No]),
-    line(Row::AskReRa,         &[3, 22],  [No,    No,    No,    To(2),  No,     No,    No,    To(4), To(4)]),
-    line(Row::DatTimeout,      &[21],     [No,    No,    To(5), To(5),  To(6),  No,    No,    To(6), To(6)]),
-    line(Row::ToVerifier,      &[15],     [No,    No,    Stay,  No,     Stay,   No,    No,    No,    No]),
-    line(Row::ToProver,        &[16],     [No,    No,    Stay,  Stay,   No,     Stay,  No,    No,    No]),
-    line(Row::SendData,        &[2],      [No,    No,    No,    No,     No,     No,    No,    To(8), No]),
-    line(Row::Data,            &[18],     [No,    No,    No,    No,     No,     No,    No,    Stay,  Stay]),
-    line(Row::Ack,             &[19],     [No,    No,    Stay,  Stay,   Stay,   Stay,  Stay,  No,    To(7)]),
-    line(Row::Repeat,          &[23],     [No,    No,    No,    No,     No,     No,    No,    No,    Stay]),
+const TABLE: [Entries; 23] = [
+    //                                        0      1      2      3       4       5      6      7      8
+    entries(Row::Start,           &[0],      [To(1), No,    No,    No,     No,     No,    No,    No,    No]),
+    entries(Row::GoodHello,       &[11],     [No,    To(2), No,    No,     No,     No,    No,    No,    No]),
+    entries(Row::BadHello,        &[11],     [No,    To(9), No,    No,     No,     No,    No,    No,    No]),
+    entries(Row::Close,           &[1, 20],  [No,    To(9), To(9), To(9),  To(9),  To(9), To(9), To(9), To(9)]),
+    entries(Row::Lost,            &[10, 12], [No,    To(9), To(9), To(9),  To(9),  To(9), To(9), To(9), To(9)]),
+    entries(Row::ProverOk,        &[7],      [No,    No,    To(4), Either, No,     To(6), No,    No,    No]),
+    entries(Row::VerifierOk,      &[4],      [No,    No,    To(3), No,     Either, No,    No,    No,    No]),
+    entries(Row::ProverFailed,    &[8],      [No,    No,    To(9), To(9),  No,     To(9), No,    No,    No]),
+    entries(Row::VerifierFailed,  &[5],      [No,    No,    To(9), No,     To(9),  No,    No,    No,    No]),
+    entries(Row::ProverMessage,   &[9],      [No,    No,    Stay,  Stay,   No,     Stay,  No,    No,    No]),
+    entries(Row::VerifierMessage, &[6],      [No,    No,    Stay,  No,     Stay,   No,    No,    No,    No]),
+    entries(Row::DatAsked,        &[14],     [No,    No,    Stay,  Stay,   To(2),  Stay,  To(5), To(3), To(3)]),
+    entries(Row::ReRaAsked,       &[17],     [No,    No,    Stay,  Stay,   To(2),  Stay,  To(5), To(3), To(3)]),
+    entries(Row::GoodDat,         &[13],     [No,    No,    No,    No,     No,     To(2), To(4), No,    No]),
+    entries(Row::BadDat,          &[13],     [No,    No,    No,    No,     No,     To(9), To(9), No,    No]),
+    entries(Row::AskReRa,         &[3, 22],  [No,    No,    No,    To(2),  No,     No,    No,    To(4), To(4)]),
+    entries(Row::DatTimeout,      &[21],     [No,    No,    To(5), To(5),  To(6),  No,    No,    To(6), To(6)]),
+    entries(Row::ToVerifier,      &[15],     [No,    No,    Stay,  No,     Stay,   No,    No,    No,    No]),
+    entries(Row::ToProver,        &[16],     [No,    No,    Stay,  Stay,   No,     Stay,  No,    No,    No]),
+    entries(Row::SendData,        &[2],      [No,    No,    No,    No,     No,     No,    No,    To(8), No]),
+    entries(Row::Data,            &[18],     [No,    No,    No,    No,     No,     No,    No,    Stay,  Stay]),
+    entries(Row::Ack,             &[19],     [No,    No,    Stay,  Stay,   Stay,   Stay,  Stay,  No,    To(7)]),
+    entries(Row::Repeat,          &[23],     [No,    No,    No,    No,     No,     No,    No,    No,    Stay]),
 ];
 
 impl Row {
-    /// Whether the line, and not its twin, is the one for this call's token.
+    /// Whether the row, and not its twin, is the one for this call's token.
     fn suits(self, call: &Call) -> bool {
         match self {
             Row::GoodHello => call.good_hello(),
@@ -126,37 +127,37 @@ fn fits(record: &Record, event: &Event) -> bool {
     }
 }
 
-/// The line that handles the call and the state it leads to; none if ignored.
+/// The row that handles the call and the state it leads to; none if ignored.
 pub(crate) fn look_up(record: &Record, call: &Call) -> Option<(Row, u32)> {
     if !fits(record, &call.event) {
         return None;
     }
-    let line = TABLE
+    let entries = TABLE
         .iter()
-        .find(|line| line.events.contains(&call.event.code) && line.row.suits(call))?;
-    let to = match *line.cells.get(record.state as usize)? {
+        .find(|entries| entries.events.contains(&call.event.code) && entries.row.suits(call))?;
+    let to = match *entries.cells.get(record.state as usize)? {
         No => return None,
         Stay => record.state,
         Either if record.ack_flag == 1 => 8,
         Either => 7,
         To(state) => state,
     };
-    Some((line.row, to))
+    Some((entries.row, to))
 }
 
 /// Every handled (state, event, next state) that can occur from fresh: the
 /// table without a live 20 where none of the timers H, HP and HV runs.
 pub fn transitions() -> Vec<(u32, u32, u32)> {
     let mut all = Vec::new();
-    for line in &TABLE {
-        for (state, cell) in (0..).zip(line.cells) {
+    for entries in &TABLE {
+        for (state, cell) in (0..).zip(entries.cells) {
             let next: &[u32] = match cell {
                 No => &[],
                 Stay => &[state],
                 Either => &[7, 8],
                 To(next) => &[next],
             };
-            for &event in line.events {
+            for &event in entries.events {
                 all.extend(next.iter().map(|&next| (state, event, next)));
             }
         }

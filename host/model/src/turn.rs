@@ -5,7 +5,7 @@ use crate::record::Record;
 use crate::table::Row;
 use crate::timers::Timer;
 
-/// A handled event: what it met, the line of the table that took it, and the
+/// A handled event: what it met, the row of the table that took it, and the
 /// state it leads to.
 pub(crate) struct Turn<'a> {
     pub record: &'a Record,

@@ -62,17 +62,17 @@ fn random_call<'a>(random: &mut Random, record: &Record, bytes: &'a [u8; 8]) -> 
 
 fn check_notes(call: &Call, result: &(Answer, Record, Sheet), cache: &[u8], notes: &mut Notes) {
     let (answer, record, sheet) = result;
-    let foretold = notes.hear(call, cache.len());
-    assert_eq!(*answer, foretold.answer);
-    assert_eq!(record.state, foretold.state);
-    assert_eq!(record.number, foretold.number);
+    let predicted = notes.hear(call, cache.len());
+    assert_eq!(*answer, predicted.answer);
+    assert_eq!(record.state, predicted.state);
+    assert_eq!(record.number, predicted.number);
     let bytes = part(sheet, call.payload, cache);
     let data = (sheet.message == message::DATA).then_some((sheet.bit, bytes));
-    assert_eq!(data, foretold.data);
+    assert_eq!(data, predicted.data);
     let ack = (sheet.message == message::ACK).then_some(sheet.bit);
-    assert_eq!(ack, foretold.ack);
-    assert_eq!(sheet.hand_up.then_some(bytes), foretold.delivered);
-    assert!(foretold.guarded || data.is_none() && ack.is_none());
+    assert_eq!(ack, predicted.ack);
+    assert_eq!(sheet.hand_up.then_some(bytes), predicted.delivered);
+    assert!(predicted.guarded || data.is_none() && ack.is_none());
 }
 
 /// What a host has running that does what the sheets order.

@@ -14,10 +14,10 @@ use Rattle.protocol.specs.declared.Outcome.{Outcome}
 use Rattle.record.specs.declared.Connection.{Connection}
 use Rattle.event.specs.declared.Input.{Input}
 use Rattle.event.specs.declared.Suites.{Suites}
-use Rattle.connection.specs.Also.{resultAlso}
+use Rattle.connection.specs.Also.{decidedAlso, resultAlso}
 use Rattle.connection.specs.Flat.{recordIn, slotsOf}
-use Rattle.connection.specs.Written.{Written, decidedAlso}
-use Rattle.connection.proofs.Also.{as-written, outcome-also, cache-also, handled-by-step}
+use Rattle.connection.specs.Written.{Written}
+use Rattle.connection.proofs.Also.{as-written, handled-by-step}
 use Rattle.connection.proofs.Cache.{room-for, kept, written, unwritten}
 use Rattle.connection.proofs.step_flat.Statement.{statement}
 use Rattle.connection.proofs.step_flat.Tie as tie
@@ -48,16 +48,16 @@ module _ (d : tie.After-decide) where
 
   -- Its answer decides the cache.
   cached : (x : Answer) → x ≡ d .decide .result → cacheAfter x call cache ≡ resultAlso also before call cache .cache
-  unfolding also before call cache
+  unfolding also before call cache resultAlso
   cached x e =
-      ap (λ (y : Answer). cacheAfter y call cache) (e ∙ d .decide .ensures .answered ∙ ap (λ (o : Outcome). o .answer) decides) ∙
-      cache-also also before call cache
+      ap (λ (y : Answer). cacheAfter y call cache) (e ∙ d .decide .ensures .answered ∙ ap (λ (o : Outcome). o .answer) decides)
 
   -- Answer, record and actions as they are promised, with the cache.
   module _ (numbers slots after : List ℕ) (w : Written (decidedAlso also (d .before .before .before .record-in .result) (call .event .code) (d .before .before .before .before .before .read .result)) (d .decide .result) numbers slots) (c : after ≡ resultAlso also before call cache .cache) where
     promised : (d .decide .result ≡ resultAlso also before call cache .outcome .answer) × ((recordIn numbers ≡ resultAlso also before call cache .outcome .connection) × ((slots ≡ slotsOf (resultAlso also before call cache .outcome .actions)) × (after ≡ resultAlso also before call cache .cache)))
+    unfolding resultAlso
     promised =
-        let v = as-written _ _ (d .decide .result) numbers slots (decides ∙ outcome-also also before call cache) w in
+        let v = as-written _ _ (d .decide .result) numbers slots decides w in
         (v .answered, (v .record-left, (v .ordered, c)))
 
 returns : tie.Need-returns

@@ -4,4 +4,4 @@ use Rattle.connection.proofs.flat.slots_of.Statement.{statement}
 use Rattle.connection.proofs.flat.slots_of.Tie as tie
 
 pub slots-of-spec : {M : Type 1} → statement M
-slots-of-spec = tie.close (tie.spec (λ c κs. search needs) (λ c. rw (c .bit-of .ensures)))
+slots-of-spec = tie.close (tie.spec (λ c κs. search needs) (λ c. rw (c .as-number .ensures)))

@@ -21,7 +21,7 @@ const BATCH: u64 = 1_000;
 const BYTES: usize = 1 << 16;
 
 /// What a thread reports.
-enum News {
+enum Report {
     Calls(u64),
     Differs(u64, u64, Box<Difference>),
     Finished(Coverage),
@@ -56,14 +56,14 @@ pub fn compare(options: &Options) -> Result<String, String> {
 }
 
 /// Prints a line for every tenth of the work until all threads have finished.
-fn listen(options: &Options, receiver: &Receiver<News>) -> Result<Coverage, String> {
+fn listen(options: &Options, receiver: &Receiver<Report>) -> Result<Coverage, String> {
     let begin = Instant::now();
     let mut coverage = Coverage::default();
     let mut done = 0;
     let mut finished = 0;
-    for news in receiver {
-        match news {
-            News::Calls(more) => {
+    for report in receiver {
+        match report {
+            Report::Calls(more) => {
                 let tenth = |calls: u64| u128::from(calls) * 10 / u128::from(options.calls);
                 let before = tenth(done);
                 done += more;
@@ -75,11 +75,11 @@ fn listen(options: &Options, receiver: &Receiver<News>) -> Result<Coverage, Stri
                     ));
                 }
             }
-            News::Finished(seen) => {
+            Report::Finished(seen) => {
                 coverage.add(seen);
                 finished += 1;
             }
-            News::Differs(seed, number, difference) => {
+            Report::Differs(seed, number, difference) => {
                 let place = format!("seed {seed}, call {number}");
                 return Err(format!("DIFFERENCE, {place}: {difference}"));
             }
@@ -93,7 +93,7 @@ fn listen(options: &Options, receiver: &Receiver<News>) -> Result<Coverage, Stri
 }
 
 /// One thread's calls. It stops early if nobody listens any more.
-fn work(seed: u64, calls: u64, sender: &Sender<News>) {
+fn work(seed: u64, calls: u64, sender: &Sender<Report>) {
     let mut random = Random::new(seed);
     let bytes: Vec<u8> = (0..BYTES).map(|_| random.next_u32() as u8).collect();
     let mut session = Session {
@@ -105,15 +105,15 @@ fn work(seed: u64, calls: u64, sender: &Sender<News>) {
     let mut arbitrary = Arbitrary::new(&bytes);
     for number in 1..=calls {
         if let Err(difference) = call(number, &mut walk, &mut arbitrary, &mut session) {
-            let _ = sender.send(News::Differs(seed, number, difference));
+            let _ = sender.send(Report::Differs(seed, number, difference));
             return;
         }
-        if number % BATCH == 0 && sender.send(News::Calls(BATCH)).is_err() {
+        if number % BATCH == 0 && sender.send(Report::Calls(BATCH)).is_err() {
             return;
         }
     }
-    let _ = sender.send(News::Calls(calls % BATCH));
-    let _ = sender.send(News::Finished(session.coverage));
+    let _ = sender.send(Report::Calls(calls % BATCH));
+    let _ = sender.send(Report::Finished(session.coverage));
 }
 
 /// The kind of a call depends on its number alone, so that the same seed makes
