@@ -1,5 +1,5 @@
 /*
- * The C face of the archive under test: every refusal, the worked cases of document 01 for tokens
+ * The interface for C of the archive under test: every refusal, the worked cases of document 01 for tokens
  * and suites, its limits, and a block that is sent and repeated. Guard bytes lie around everything
  * that a call may write.
  */

@@ -26,10 +26,10 @@
  * ANSWERS
  *
  * A call is handled, ignored or refused. An ignored or refused call leaves record and cache as
- * they were and sets all actions to 0. Faults are looked for at every call, in this order, and the
- * first one is given: 42 and 43 (menhotrac_call_step alone), then 1 to 8, then 41. After a refusal
- * the host may go on, or end the connection with SC_ERROR or UPPER_CLOSE; one that gets 7 or 8 is
- * refused these too, so the host drops it.
+ * they were and sets all actions to 0 (for 42 and 43 see menhotrac_call_step). Faults are looked
+ * for at every call, in this order, and the first one is given: 42 and 43 (menhotrac_call_step
+ * alone), then 1 to 8, then 41. After a refusal the host may go on, or end the connection with
+ * SC_ERROR or UPPER_CLOSE; one that gets 7 or 8 is refused these too, so the host drops it.
  *
  * TAGS
  *
@@ -322,7 +322,7 @@ MENHOTRAC_AT(choice, prover, 12, 4);
 
 /* ---- Functions of the archive ---- */
 
-/* Makes the record of a new connection. */
+/* Makes the record of a new connection. The pointer is not tested. */
 MENHOTRAC_ABI void menhotrac_fresh(menhotrac_connection *connection);
 
 /*
@@ -344,7 +344,7 @@ MENHOTRAC_ABI int64_t menhotrac_seconds_left(int64_t expiry, int64_t now);
 
 /*
  * The suite choice, asked alone. It returns 0, or 6 (MENHOTRAC_REFUSED_LIST_TOO_LONG), and writes
- * the suites that the lists have in common; the verifier's order decides.
+ * the suites that the lists have in common; the verifier's order decides. Pointers are not tested.
  */
 MENHOTRAC_ABI uint32_t menhotrac_choose_suites(
     const uint32_t *our_verifiers, size_t our_verifiers_len,
@@ -361,7 +361,10 @@ typedef struct menhotrac_list {
     size_t len;
 } menhotrac_list;
 
-/* An event with what is lent with it. Zeros lend nothing. */
+/*
+ * An event with what is lent with it. Initialise it, with MENHOTRAC_ZERO or by naming fields: what
+ * is left out lends nothing.
+ */
 typedef struct menhotrac_call {
     menhotrac_event event;
     const uint8_t *payload;
@@ -372,7 +375,7 @@ typedef struct menhotrac_call {
     menhotrac_list our_provers;
 } menhotrac_call;
 
-/* What is lent to a step: first what it writes, then what it only reads. */
+/* What menhotrac_call_step tests: first what a step writes, then what it only reads. */
 enum menhotrac_lent {
     MENHOTRAC_LENT_ACTIONS,
     MENHOTRAC_LENT_CONNECTION,

@@ -7,7 +7,7 @@ use mathlib.Core.Option.{none}
 use Prim.Native.Nat.{ℕ}
 use lib.ListN.{length}
 use Rattle.connection.specs.Also.{resultAlso}
-use Rattle.connection.specs.Flat.{recordIn}
+use Rattle.flat.specs.Flat.{recordIn}
 use Rattle.protocol.specs.Agreement.{AllAgree}
 use Rattle.protocol.specs.History.{first}
 use Rattle.protocol.specs.Run.{resultsOf}

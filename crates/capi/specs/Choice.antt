@@ -1,7 +1,7 @@
 -- The suite choice, asked alone, in numbers.
 use Prim.Native.Nat.{ℕ}
 use mathlib.Core.List.{List, [], _∷_}
-use Rattle.connection.specs.Flat.{asNumber}
+use Rattle.flat.specs.Flat.{asNumber}
 use Rattle.suites.specs.Answer.{Answer}
 
 -- Whether the verifier's suite was found, that suite, and both for the prover's.

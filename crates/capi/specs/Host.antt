@@ -3,7 +3,7 @@ use Prim.Native.Nat.{ℕ}
 use mathlib.Core.Path.{_≡_}
 use mathlib.Core.Bool.{false}
 use mathlib.Core.List.{List, [], _∷_}
-use Rattle.connection.specs.Flat.{recordIn}
+use Rattle.flat.specs.Flat.{recordIn}
 use Rattle.event.specs.Call.{Call, callOf}
 use Rattle.protocol.specs.Step.{Result}
 use Rattle.capi.specs.Returned.{Returned, returned, returnedOf}

@@ -2,7 +2,7 @@
 use Prim.Native.Nat.{ℕ}
 use mathlib.Core.List.{List}
 use Rattle.connection.specs.Also.{resultAlso}
-use Rattle.connection.specs.Flat.{recordIn, slotsOf}
+use Rattle.flat.specs.Flat.{recordIn, slotsOf}
 use Rattle.event.specs.Call.{callOf}
 use Rattle.record.specs.declared.Connection.{Connection}
 use Rattle.protocol.specs.Step.{Result}

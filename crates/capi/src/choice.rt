@@ -1,10 +1,10 @@
 // The suite choice in numbers.
 ghost use mathlib.Core.Path.{_≡_};
 ghost use Rattle.capi.specs.Choice.{chosenOf};
-ghost use Rattle.connection.specs.Flat.{asNumber};
+ghost use Rattle.flat.specs.Flat.{asNumber};
 ghost use Rattle.suites.specs.Numbers.{answerOf, foundOf};
-use connection::flat::as_number;
 use connection::refusals;
+use flat::as_number;
 use suites::Choice;
 use suites::Common;
 

@@ -16,8 +16,8 @@ use Rattle.protocol.specs.declared.Outcome.{Outcome}
 use Rattle.record.specs.declared.Connection.{Connection}
 use Rattle.event.specs.declared.Input.{Input}
 use Rattle.connection.specs.Also.{decidedAlso, resultAlso}
-use Rattle.connection.specs.Flat.{recordIn, slotsOf}
-use Rattle.connection.specs.Written.{Written}
+use Rattle.flat.specs.Flat.{recordIn, slotsOf}
+use Rattle.flat.specs.Written.{Written}
 use Rattle.protocol.proofs.Decided.{number-is}
 use Rattle.protocol.proofs.Stepped.{never-refused}
 

@@ -1,3 +1,2 @@
 pub mod Also
 mod Cache
-mod ReadBack

@@ -1,3 +1,1 @@
-pub mod Flat
 pub mod Also
-pub mod Written

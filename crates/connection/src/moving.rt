@@ -1,9 +1,9 @@
 // A handled event that doesn't lock: each arm writes what its event does.
 ghost use types.Run.{OneOf};
 ghost use Rattle.moves.specs.ByEvent.{byEvent, moving};
-ghost use Rattle.connection.specs.Written.{Written};
-use crate::flat::put;
+ghost use Rattle.flat.specs.Written.{Written};
 use event::Input;
+use flat::put;
 use moves::expire_token;
 use moves::open_connection;
 use moves::pass_on;

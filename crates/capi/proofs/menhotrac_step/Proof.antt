@@ -4,7 +4,7 @@ use Prim.Native.Nat.{ℕ}
 use denote.Ref.{now}
 use borrow.Author.Needs.{needs}
 use Rattle.connection.specs.Also.{resultAlso}
-use Rattle.connection.specs.Flat.{recordIn, slotsOf}
+use Rattle.flat.specs.Flat.{recordIn, slotsOf}
 use Rattle.event.specs.Call.{callOf}
 use Rattle.event.specs.declared.Event.{Event}
 use Rattle.protocol.specs.Step.{Result}

@@ -11,9 +11,9 @@ use Rattle.record.specs.declared.Connection.{Connection}
 use Rattle.protocol.specs.Step.{Result, refusalNumber, resultOf}
 use Rattle.protocol.proofs.Decided.{number-is}
 use Rattle.connection.specs.Also.{resultAlso}
-use Rattle.connection.specs.Flat.{recordIn}
+use Rattle.flat.specs.Flat.{recordIn}
 use Rattle.connection.proofs.Also.{none-also}
-use Rattle.connection.proofs.ReadBack.{back}
+use Rattle.flat.proofs.ReadBack.{back}
 use Rattle.connection.proofs.step.Statement.{statement}
 use Rattle.connection.proofs.step.Tie as tie
 

@@ -15,8 +15,8 @@ use Rattle.record.specs.declared.Connection.{Connection}
 use Rattle.event.specs.declared.Input.{Input}
 use Rattle.event.specs.declared.Suites.{Suites}
 use Rattle.connection.specs.Also.{decidedAlso, resultAlso}
-use Rattle.connection.specs.Flat.{recordIn, slotsOf}
-use Rattle.connection.specs.Written.{Written}
+use Rattle.flat.specs.Flat.{recordIn, slotsOf}
+use Rattle.flat.specs.Written.{Written}
 use Rattle.connection.proofs.Also.{as-written, handled-by-step}
 use Rattle.connection.proofs.Cache.{room-for, kept, written, unwritten}
 use Rattle.connection.proofs.step_flat.Statement.{statement}

@@ -9,8 +9,8 @@ use Rattle.protocol.specs.declared.Actions.{Actions}
 use Rattle.protocol.specs.declared.Answer.{Answer}
 use Rattle.protocol.specs.declared.Outcome.{Outcome}
 use Rattle.record.specs.declared.Connection.{Connection}
-use Rattle.connection.specs.Flat.{asNumber, recordIn, slotsOf, actionsIn}
-use Rattle.connection.specs.Written.{Written}
+use Rattle.flat.specs.Flat.{asNumber, recordIn, slotsOf, actionsIn}
+use Rattle.flat.specs.Written.{Written}
 
 number-back : (b : Bool) → eqb (asNumber b) 1 ≡ b
 number-back true = refl

@@ -1,7 +1,7 @@
 // Record and actions as numbers in a fixed order, as a host in C holds them.
 ghost use mathlib.Core.Path.{_≡_};
-ghost use Rattle.connection.specs.Flat.{actionsIn, asNumber, numbersOf, recordIn, slotsOf};
-ghost use Rattle.connection.specs.Written.{Written};
+ghost use Rattle.flat.specs.Flat.{actionsIn, asNumber, numbersOf, recordIn, slotsOf};
+ghost use Rattle.flat.specs.Written.{Written};
 use protocol::Actions;
 use protocol::Answer;
 use protocol::Outcome;
@@ -79,7 +79,7 @@ pub fn slots_of(actions: Actions) -> [u32; 16]
 }
 
 // The order sheet that sixteen numbers are.
-pub(crate) fn actions_in(slots: &[u32; 16]) -> Actions
+pub fn actions_in(slots: &[u32; 16]) -> Actions
     ensures { λ r. ⌜ r ≡ actionsIn (now (slots .entry)) ⌝ }
 {
     Actions {
@@ -104,7 +104,7 @@ pub(crate) fn actions_in(slots: &[u32; 16]) -> Actions
 
 // Writes an outcome and gives its answer. Each event does so in its own arm: an outcome that is handed on through
 // several functions is copied at each.
-pub(crate) fn put(numbers: &mut [u32; 12], slots: &mut [u32; 16], outcome: Outcome) -> Answer
+pub fn put(numbers: &mut [u32; 12], slots: &mut [u32; 16], outcome: Outcome) -> Answer
     ensures { λ r. ⌜ Written outcome r (now (numbers .exit)) (now (slots .exit)) ⌝ }
 {
     let after = outcome.connection;

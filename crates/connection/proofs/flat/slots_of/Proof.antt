@@ -1,7 +1,0 @@
--- `connection::flat::slots_of` meets its contract.
-use borrow.Author.Needs.{needs}
-use Rattle.connection.proofs.flat.slots_of.Statement.{statement}
-use Rattle.connection.proofs.flat.slots_of.Tie as tie
-
-pub slots-of-spec : {M : Type 1} → statement M
-slots-of-spec = tie.close (tie.spec (λ c κs. search needs) (λ c. rw (c .as-number .ensures)))
