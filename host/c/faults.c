@@ -1,7 +1,7 @@
 /*
- * The interface for C of the archive under test: every refusal, the worked cases of document 01 for tokens
- * and suites, its limits, and a block that is sent and repeated. Guard bytes lie around everything
- * that a call may write.
+ * The interface for C under test: every refusal, the worked cases of document 01 for tokens and
+ * suites, its limits, and a block that is sent and repeated. Guard bytes lie around everything that
+ * a call may write.
  */
 #include <stdio.h>
 #include <stdlib.h>
@@ -809,6 +809,6 @@ int main(void)
     test_passed_on();
     test_parts();
     test_names();
-    printf("c face: %lu checks passed\n", checks);
+    printf("interface for C: %lu checks passed\n", checks);
     return EXIT_SUCCESS;
 }
