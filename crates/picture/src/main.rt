@@ -32,7 +32,9 @@ fn look() {
         b" shape=box style=\"rounded,filled\" margin=\"0.1,0.05\" color=\"#34517f\"",
     );
     defaults(b"edge", b" arrowsize=0.7 color=\"#34517f\"");
-    print::text(b"  label=\"An event that is not shown in a state is ignored there; so is a report or timeout that is not live, and a DATA or ACK with another bit.\";\n");
+    print::text(
+        b"  label=\"An event that is not shown in a state is ignored there; so is a report or timeout that is not live, and a DATA or ACK with another bit.\";\n",
+    );
 }
 
 fn defaults(kind: &[u8], attributes: &[u8]) {

@@ -92,8 +92,8 @@ fn take(
         11 => hello(c, e, lists, a),
         13 => renew_token(c, e, a),
         14 => prove_again(c, a, DAT),
-        15 => pass_to_verifier(c, a, len),
-        16 => pass_to_prover(c, a, len),
+        15 => pass_on(c, a, true, len),
+        16 => pass_on(c, a, false, len),
         17 => prove_again(c, a, 0),
         18 => receive_data(c, e, a, len),
         19 => receive_ack(c, e, a),
@@ -438,23 +438,18 @@ fn send_report(
     HANDLED
 }
 
-fn pass_to_verifier(c: &mut Connection, a: &mut Actions, len: u32) -> u32 {
-    if c.verifier == 0 {
+#[inline(always)]
+fn pass_on(c: &mut Connection, a: &mut Actions, to_verifier: bool, len: u32) -> u32 {
+    let (tag, order) = if to_verifier {
+        (c.verifier, &mut a.verifier)
+    } else {
+        (c.prover, &mut a.prover)
+    };
+    if tag == 0 {
         return IGNORED;
     }
     next_number!(c);
-    a.verifier = FORWARD;
-    a.payload_slice = OF_EVENT;
-    a.payload_len = len;
-    HANDLED
-}
-
-fn pass_to_prover(c: &mut Connection, a: &mut Actions, len: u32) -> u32 {
-    if c.prover == 0 {
-        return IGNORED;
-    }
-    next_number!(c);
-    a.prover = FORWARD;
+    *order = FORWARD;
     a.payload_slice = OF_EVENT;
     a.payload_len = len;
     HANDLED

@@ -87,38 +87,24 @@ fn the_other_bit_is_sent_and_acknowledged() {
     assert_eq!(actions.message, Some(Message::Ack(Bit::One)));
 }
 
-#[test]
-fn message_of_the_verifier_is_sent() {
-    let event = Event::RaVerifierMsg {
-        tag: Tag(3),
-        payload: PAYLOAD,
+/// Given in a state, the event sends its payload in this message and orders nothing else.
+fn sends(state: usize, event: Event, message: Message) {
+    let message = Some(message);
+    let actions = Actions {
+        message,
+        ..Actions::default()
     };
-    let message = Some(Message::RaVerifier);
-    of_event(
-        4,
-        event,
-        Actions {
-            message,
-            ..Actions::default()
-        },
-    );
+    of_event(state, event, actions);
 }
 
 #[test]
-fn message_of_the_prover_is_sent() {
-    let event = Event::RaProverMsg {
-        tag: Tag(2),
-        payload: PAYLOAD,
-    };
-    let message = Some(Message::RaProver);
-    of_event(
-        3,
-        event,
-        Actions {
-            message,
-            ..Actions::default()
-        },
-    );
+fn messages_of_the_drivers_are_sent() {
+    let (tag, payload) = (Tag(3), PAYLOAD);
+    let event = Event::RaVerifierMsg { tag, payload };
+    sends(4, event, Message::RaVerifier);
+    let (tag, payload) = (Tag(2), PAYLOAD);
+    let event = Event::RaProverMsg { tag, payload };
+    sends(3, event, Message::RaProver);
 }
 
 #[test]
