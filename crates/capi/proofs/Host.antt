@@ -35,6 +35,7 @@ holds-same got a b e h = record {
   record-left = h .record-left ∙ ap (λ (r : Returned). r .connection) e;
   ordered = h .ordered ∙ ap (λ (r : Returned). r .actions) e;
   cache-left = h .cache-left ∙ ap (λ (r : Returned). r .cache) e;
+  part-taken = h .part-taken ∙ ap (λ (r : Returned). r .part) e;
 }
 
 -- What a host got, from numbers and a cache that are those of a record and a cache.

@@ -34,12 +34,13 @@ abbrev pub AllRight : List FlatCall → Type 0
 AllRight [] = Unit {0}
 AllRight (call ∷ calls) = (wrongVerdict (call .event) ≡ false) × AllRight calls
 
--- What the host holds after a call: the answer, the numbers of record and actions, and the cache.
+-- What the host holds after a call: the answer, the numbers of record and actions, the cache, and the payload part that it took.
 pub record Got : Type 0 where
   pub answer : ℕ
   pub numbers : List ℕ
   pub slots : List ℕ
   pub cache : List ℕ
+  pub part : List ℕ
 
 -- It is what a call returns.
 pub record Holds (got : Got) (gives : Returned) : Type 0 where
@@ -47,6 +48,7 @@ pub record Holds (got : Got) (gives : Returned) : Type 0 where
   pub record-left : recordIn (got .numbers) ≡ gives .connection
   pub ordered : got .slots ≡ gives .actions
   pub cache-left : got .cache ≡ gives .cache
+  pub part-taken : got .part ≡ gives .part
 
 -- What the contract of `menhotrac_step` promises over a list of calls, each given the numbers and the cache that the last one left.
 unfoldable pub AllPromised : (numbers cache : List ℕ) → List FlatCall → List Got → Type 0

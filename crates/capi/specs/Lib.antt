@@ -1,5 +1,6 @@
 pub mod Answer
 pub mod Choice
 pub mod Verdict
+pub mod Part
 pub mod Returned
 pub mod Host

@@ -10,13 +10,13 @@ use Rattle.capi.specs.Answer.{answerNumber}
 use Rattle.capi.specs.Verdict.{refusedAs, eventOf}
 use Rattle.capi.specs.declared.FlatEvent.{FlatEvent}
 
--- The answer as a number, the record that the twelve numbers are, the sixteen slots of the order sheet, and the cache. The payload part is the one that the
--- slots name.
+-- The answer as a number, the record that the twelve numbers are, the sixteen slots of the order sheet, the cache, and the payload part.
 pub record Returned : Type 0 where
   pub answer : ℕ
   pub connection : Connection
   pub actions : List ℕ
   pub cache : List ℕ
+  pub part : List ℕ
 
 -- A result as it is returned.
 abbrev pub returnedOf : Result → Returned
@@ -25,6 +25,7 @@ returnedOf result = record {
   connection = result .outcome .connection;
   actions = slotsOf (result .outcome .actions);
   cache = result .cache;
+  part = result .part;
 }
 
 -- What a call returns, by the arguments of `menhotrac_step`: the step's result; where the step refuses nothing, a wrong verdict is refused.

@@ -4,6 +4,7 @@
 // all memory, and the library keeps none of it.
 ghost use mathlib.Core.Path.{_≡_};
 ghost use Rattle.capi.specs.Choice.{chosenOf};
+ghost use Rattle.capi.specs.Part.{Within, partIn};
 ghost use Rattle.capi.specs.Returned.{returned};
 ghost use Rattle.capi.specs.Verdict.{eventOf, refusedAs, wrongVerdict};
 ghost use Rattle.flat.specs.Flat.{numbersOf, recordIn};
@@ -107,7 +108,8 @@ pub extern "C" fn menhotrac_choose_suites(
     refusal_in(choice)
 }
 
-// One step. It changes the record and writes the actions; a handled `UPPER_SEND_DATA` writes the cache.
+// One step. It changes the record and writes the actions; a handled `UPPER_SEND_DATA` writes the cache. The payload part
+// is the one that the slots name, and lies within its slice.
 #[no_mangle]
 pub extern "C" fn menhotrac_step(
     connection: &mut [u32; 12],
@@ -124,6 +126,8 @@ pub extern "C" fn menhotrac_step(
     ensures { λ _. ⌜ recordIn (now (connection .exit)) ≡ returned (now (connection .entry)) event (now (payload .entry)) (now (cache .entry)) (now («our_verifiers» .entry)) (now («peer_provers» .entry)) (now («peer_verifiers» .entry)) (now («our_provers» .entry)) .connection ⌝ }
     ensures { λ _. ⌜ now (actions .exit) ≡ returned (now (connection .entry)) event (now (payload .entry)) (now (cache .entry)) (now («our_verifiers» .entry)) (now («peer_provers» .entry)) (now («peer_verifiers» .entry)) (now («our_provers» .entry)) .actions ⌝ }
     ensures { λ _. ⌜ now (cache .exit) ≡ returned (now (connection .entry)) event (now (payload .entry)) (now (cache .entry)) (now («our_verifiers» .entry)) (now («peer_provers» .entry)) (now («peer_verifiers» .entry)) (now («our_provers» .entry)) .cache ⌝ }
+    ensures { λ _. ⌜ Within (now (actions .exit)) (now (payload .entry)) (now (cache .exit)) ⌝ }
+    ensures { λ _. ⌜ partIn (now (actions .exit)) (now (payload .entry)) (now (cache .exit)) ≡ returned (now (connection .entry)) event (now (payload .entry)) (now (cache .entry)) (now («our_verifiers» .entry)) (now («peer_provers» .entry)) (now («peer_verifiers» .entry)) (now («our_provers» .entry)) .part ⌝ }
 {
     let answer = step_flat(
         connection,

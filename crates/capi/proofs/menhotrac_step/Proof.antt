@@ -11,6 +11,7 @@ use Rattle.protocol.specs.Step.{Result}
 use Rattle.capi.specs.Answer.{answerNumber}
 use Rattle.capi.specs.Returned.{returned}
 use Rattle.capi.specs.Verdict.{refusedAs, eventOf}
+use Rattle.capi.proofs.Part.{taken}
 use Rattle.capi.proofs.menhotrac_step.Statement.{statement}
 use Rattle.capi.proofs.menhotrac_step.Tie as tie
 
@@ -29,11 +30,15 @@ returns : tie.Need-returns
 unfolding returned result
 returns c =
     let s = c .before .before .before in
-    let e = s .step-flat .ensures in (
+    let a = s .before .before .before .before .before .before .before .before .before .before .before .before .args in
+    let e = s .step-flat .ensures in
+    let slots = e .1 .1 .0 ∙ ap (λ (r : Result). slotsOf (r .outcome .actions)) (of-event s) in
+    let left = e .1 .1 .1 ∙ ap (λ (r : Result). r .cache) (of-event s) in
+    let call = callOf (eventOf (a .event)) (now (a .payload)) (now (a .«our-verifiers»)) (now (a .«peer-provers»)) (now (a .«peer-verifiers»)) (now (a .«our-provers»)) in (
       c .number-of .ensures ∙ ap answerNumber (e .0) ∙ ap (λ (r : Result). answerNumber (r .outcome .answer)) (of-event s),
       (
         e .1 .0 ∙ ap (λ (r : Result). r .outcome .connection) (of-event s),
-        (e .1 .1 .0 ∙ ap (λ (r : Result). slotsOf (r .outcome .actions)) (of-event s), e .1 .1 .1 ∙ ap (λ (r : Result). r .cache) (of-event s)),
+        (slots, (left, taken (refusedAs (a .event)) (recordIn (now (a .connection))) call (now (a .cache)) _ _ slots left)),
       ),
     )
 
