@@ -1,17 +1,22 @@
 -- Demand 3 at the interface for C.
 -- Assumes nothing.
 use mathlib.Core.Path.{_≡_, refl, ap, _∙_}
-use mathlib.Core.Bool.{Bool, false, cond}
+use mathlib.Core.Bool.{Bool, true, false, cond}
 use mathlib.Core.List.{List, [], _∷_}
 use mathlib.Core.Option.{none}
 use Prim.Native.Nat.{ℕ}
+use lib.Dec.{eqb}
 use lib.ListN.{length}
-use Rattle.connection.specs.Also.{resultAlso}
+use Rattle.connection.specs.Also.{decidedAlso, resultAlso}
 use Rattle.flat.specs.Flat.{recordIn}
+use Rattle.event.specs.Call.{Call, inputOf}
 use Rattle.protocol.specs.Agreement.{AllAgree}
+use Rattle.protocol.specs.Block.{partOf}
 use Rattle.protocol.specs.History.{first}
 use Rattle.protocol.specs.Run.{resultsOf}
-use Rattle.protocol.specs.Step.{Result, resultOf}
+use Rattle.protocol.specs.Step.{Result, refusalOf, cacheAfter, decided, resultWith, resultOf, unchanged}
+use Rattle.protocol.specs.declared.Answer.the-variants.{Refused}
+use Rattle.protocol.specs.declared.Outcome.{Outcome}
 use Rattle.record.specs.Limits.{limits}
 use Rattle.record.specs.WellFormed.{fresh}
 use Rattle.record.specs.declared.Connection.{Connection}
@@ -20,6 +25,7 @@ use Rattle.capi.specs.Returned.{Returned, returned, returnedOf}
 use Rattle.capi.specs.Verdict.{refusedVerdict, wrongVerdict}
 use Rattle.connection.proofs.Also.{none-also}
 use Rattle.protocol.proofs.Agreement.{demand3}
+use Rattle.protocol.proofs.Stepped.{still}
 
 -- A call with a right verdict returns the step's result.
 right : (numbers cache : List ℕ) (call : FlatCall) → wrongVerdict (call .event) ≡ false
@@ -28,6 +34,29 @@ unfolding returned
 right numbers cache call e =
     ap (λ (b : Bool). returnedOf (resultAlso (cond b refusedVerdict 0) (recordIn numbers) (callIn call) cache)) e ∙
     ap returnedOf (none-also (recordIn numbers) (callIn call) cache)
+
+-- One that the interface refuses is refused with the step's number, or with the interface's where the step refuses nothing; nothing changes.
+module _ (also : ℕ) (some : eqb also 0 ≡ false) (connection : Connection) (call : Call) (cache : List ℕ) where
+  abbrev refused-with : ℕ
+  refused-with = let n = refusalOf limits connection call (length cache) in cond (eqb n 0) also n
+
+  stays : resultAlso also connection call cache ≡ still (Refused refused-with) connection cache
+  unfolding resultAlso decidedAlso decided partOf
+  stays =
+      ap (λ (o : Outcome). resultWith o (call .payload) (cacheAfter (o .answer) call cache)) (by-refusal (eqb (refusalOf limits connection call (length cache)) 0) refl)
+    where
+      by-refusal : (b : Bool) → eqb (refusalOf limits connection call (length cache)) 0 ≡ b → decidedAlso also connection (call .event .code) (inputOf limits call (length cache)) ≡ unchanged (Refused refused-with) connection
+      by-refusal true e = rw (e, some)
+      by-refusal false e = rw e
+
+-- So a call with a wrong verdict changes nothing.
+pub wrong-changes-nothing : (numbers cache : List ℕ) (call : FlatCall) → wrongVerdict (call .event) ≡ true
+    → returned numbers (call .event) (call .payload) cache (call .ourVerifiers) (call .peerProvers) (call .peerVerifiers) (call .ourProvers)
+    ≡ returnedOf (still (Refused (refused-with refusedVerdict refl (recordIn numbers) (callIn call) cache)) (recordIn numbers) cache)
+unfolding returned
+wrong-changes-nothing numbers cache call e =
+    ap (λ (b : Bool). returnedOf (resultAlso (cond b refusedVerdict 0) (recordIn numbers) (callIn call) cache)) e ∙
+    ap returnedOf (stays refusedVerdict refl (recordIn numbers) (callIn call) cache)
 
 holds-same : (got : Got) (a b : Returned) → a ≡ b → Holds got a → Holds got b
 holds-same got a b e h = record {

@@ -19,7 +19,7 @@ pub record FlatCall : Type 0 where
   pub peerVerifiers : List ℕ
   pub ourProvers : List ℕ
 
--- The calls of document 01 that they are.
+-- The call of document 01 that it is.
 abbrev pub callIn : FlatCall → Call
 callIn call =
     callOf (eventOf (call .event)) (call .payload) (call .ourVerifiers) (call .peerProvers) (call .peerVerifiers) (call .ourProvers)
@@ -34,7 +34,8 @@ abbrev pub AllRight : List FlatCall → Type 0
 AllRight [] = Unit {0}
 AllRight (call ∷ calls) = (wrongVerdict (call .event) ≡ false) × AllRight calls
 
--- What the host holds after a call: the answer, the numbers of record and actions, the cache, and the payload part that it took.
+-- What the host holds after a call: the answer, the numbers of record and actions, the cache, and the payload part that it took: `partIn` of these slots, the call's payload
+-- and this cache.
 pub record Got : Type 0 where
   pub answer : ℕ
   pub numbers : List ℕ
