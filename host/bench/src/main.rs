@@ -1,5 +1,5 @@
-//! Measures the archive's step beside one in ordinary Rust and beside the model: the same calls, the programs in turn,
-//! the median of many rounds.
+//! Measures the archive's step and the archive's reader beside ordinary Rust, and the step beside the model: the same
+//! calls, the programs in turn, the median of many rounds.
 
 #![forbid(unsafe_code)]
 
@@ -7,6 +7,7 @@ mod baseline;
 mod engines;
 mod measure;
 mod mixes;
+mod wire;
 
 use engines::{Archive, Baseline, Model};
 use measure::{median, replay, Lent};
@@ -14,14 +15,17 @@ use mixes::Mix;
 use std::process::ExitCode;
 
 const HELP: &str = "\
-Measures the archive's step beside one in ordinary Rust and beside the model.
+Measures the archive's step beside one in ordinary Rust and beside the model, and the archive's reader beside one in
+ordinary Rust.
 
   bench                     all mixes, medians of 301 rounds
-  bench MIX PROGRAM         ten replays of one mix by one program, archive or rust, for a tool that counts instructions
+  bench step                those of the step alone
+  bench read                those of the reader alone
+  bench MIX PROGRAM         replays of one mix by one program, archive or rust, for a tool that counts instructions
   bench --help              this text
 
-Mixes: handshake, data-1, data-4096, re-attestation, ignored, refused.";
-
+Mixes of the step: handshake, data-1, data-4096, re-attestation, ignored, refused.
+Mixes of the reader: read-hello, read-hello-16, read-data-1, read-data-4096, read-ack, read-close, read-refused.";
 const ROUNDS: usize = 301;
 const CALLS: usize = 3_000;
 const REPLAYS: usize = 10;
@@ -52,7 +56,7 @@ fn compare_on(mix: &Mix, lent: &mut Lent) -> [f64; 3] {
     times.map(|mut all| median(&mut all))
 }
 
-fn report() {
+fn report_steps() {
     println!(
         "{:16} {:>12} {:>9} {:>9} {:>9} {:>10}",
         "mix", "steps/s", "archive", "rust", "model", "archive to"
@@ -72,29 +76,43 @@ fn report() {
     }
 }
 
-/// Replays for a tool that counts; prints how many calls there were.
-fn count(mix: &Mix, program: &str) -> Result<usize, String> {
+/// Replays for a tool that counts, and tells how many calls there were; none if there is no such program.
+fn count_steps(mix: &Mix, program: &str) -> Option<usize> {
     let mut lent = Lent::new();
     for _ in 0..REPLAYS {
         match program {
             "archive" => replay(&mut Archive::default(), mix, &mut lent),
             "rust" => replay(&mut Baseline::default(), mix, &mut lent),
-            _ => return Err(format!("there is no program \"{program}\"")),
+            _ => return None,
         };
     }
-    Ok(REPLAYS * mix.calls.len())
+    Some(REPLAYS * mix.calls.len())
+}
+
+fn count(name: &str, program: &str) -> Result<usize, String> {
+    let steps = mixes::all(CALLS);
+    let messages = wire::mixes::all();
+    let step = steps.iter().find(|mix| mix.name == name);
+    let message = messages.iter().find(|mix| mix.name == name);
+    let counted = match (step, message) {
+        (Some(mix), _) => count_steps(mix, program),
+        (_, Some(mix)) => wire::count(mix, program),
+        _ => return Err(format!("there is no mix \"{name}\"")),
+    };
+    counted.ok_or_else(|| format!("there is no program \"{program}\""))
 }
 
 fn run(words: &[String]) -> Result<(), String> {
     match words {
-        [] => report(),
-        [word] if word == "--help" || word == "-h" => println!("{HELP}"),
-        [name, program] => {
-            let mixes = mixes::all(CALLS);
-            let mix = mixes.iter().find(|mix| mix.name == name);
-            let mix = mix.ok_or_else(|| format!("there is no mix \"{name}\""))?;
-            println!("{}", count(mix, program)?);
+        [] => {
+            report_steps();
+            println!();
+            wire::report(ROUNDS);
         }
+        [word] if word == "step" => report_steps(),
+        [word] if word == "read" => wire::report(ROUNDS),
+        [word] if word == "--help" || word == "-h" => println!("{HELP}"),
+        [name, program] => println!("{}", count(name, program)?),
         _ => return Err("wrong arguments".into()),
     }
     Ok(())

@@ -1,8 +1,8 @@
 //! The fresh record, the token's time and the choice of suites, asked alone.
 
-use crate::difference::Difference;
+use crate::difference::{Checked, Difference};
 use crate::draw;
-use crate::session::{Checked, Session};
+use crate::session::Session;
 use crate::suite_lists::SuiteLists;
 use crate::translate;
 use menhotrac::raw;

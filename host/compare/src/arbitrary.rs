@@ -1,9 +1,9 @@
 //! Calls on arbitrary records: well formed, with one clause spoilt, and wholly
 //! random.
 
-use crate::difference::Difference;
+use crate::difference::{Checked, Difference};
 use crate::draw;
-use crate::session::{Checked, Session};
+use crate::session::Session;
 use crate::spoilt::{self, Spoil};
 use crate::trial::Sides;
 use crate::well_formed;

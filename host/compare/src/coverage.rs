@@ -3,10 +3,10 @@
 use crate::arguments::Arguments;
 use crate::spoilt::{self, Spoil};
 use crate::trial::Outcome;
+use compare::seen::{seen, size, summed};
 use menhotrac::raw::{HANDLED, IGNORED, WRONG_VERDICT};
 use model::{fault, transitions, Record};
 use std::collections::{BTreeMap, BTreeSet};
-use std::fmt::Debug;
 
 /// How many transitions can occur from fresh.
 const TRANSITIONS: usize = 94;
@@ -86,33 +86,6 @@ impl Coverage {
         self.asked_alone += 1;
     }
 
-    pub fn add(&mut self, other: Coverage) {
-        self.asked_alone += other.asked_alone;
-        for (answer, count) in other.answers {
-            *self.answers.entry(answer).or_default() += count;
-        }
-        self.transitions.extend(other.transitions);
-        self.pairs.extend(other.pairs);
-        self.spoils.extend(other.spoils);
-    }
-
-    /// The summary, and whether all was seen that has to be, and nothing else.
-    pub fn summary(&self) -> (String, bool) {
-        let possible: BTreeSet<_> = transitions().into_iter().collect();
-        let spoils = spoilt::all().into_iter().collect();
-        let answers = self.answers.keys().copied();
-        let refusals = answers.filter(|&answer| is_refusal(answer)).collect();
-        let parts = [
-            size("transitions of the table", possible.len(), TRANSITIONS),
-            seen("transitions", &self.transitions, possible),
-            seen("refusals", &refusals, FAULTS.into()),
-            seen("pairs of faults", &self.pairs, PAIRS.into()),
-            seen("spoilt clauses", &self.spoils, spoils),
-        ];
-        let lines: String = parts.iter().map(|(line, _)| line.as_str()).collect();
-        (self.counts() + &lines, parts.iter().all(|&(_, good)| good))
-    }
-
     fn counts(&self) -> String {
         let mut text = String::new();
         for (&answer, count) in &self.answers {
@@ -126,29 +99,33 @@ impl Coverage {
     }
 }
 
+impl compare::seen::Coverage for Coverage {
+    fn add(&mut self, other: Coverage) {
+        self.asked_alone += other.asked_alone;
+        for (answer, count) in other.answers {
+            *self.answers.entry(answer).or_default() += count;
+        }
+        self.transitions.extend(other.transitions);
+        self.pairs.extend(other.pairs);
+        self.spoils.extend(other.spoils);
+    }
+
+    fn summary(&self) -> (String, bool) {
+        let possible: BTreeSet<_> = transitions().into_iter().collect();
+        let spoils = spoilt::all().into_iter().collect();
+        let answers = self.answers.keys().copied();
+        let refusals = answers.filter(|&answer| is_refusal(answer)).collect();
+        summed(&[
+            (self.counts(), true),
+            size("transitions of the table", possible.len(), TRANSITIONS),
+            seen("transitions", &self.transitions, possible),
+            seen("refusals", &refusals, FAULTS.into()),
+            seen("pairs of faults", &self.pairs, PAIRS.into()),
+            seen("spoilt clauses", &self.spoils, spoils),
+        ])
+    }
+}
+
 fn is_refusal(answer: u32) -> bool {
     ![HANDLED, IGNORED].contains(&answer)
-}
-
-/// Says nothing of a set that is as large as it should be.
-fn size(name: &str, found: usize, wanted: usize) -> (String, bool) {
-    if found == wanted {
-        return (String::new(), true);
-    }
-    (format!("{name} {found}, NOT {wanted}\n"), false)
-}
-
-/// A line of the summary, and whether what was seen is just what was wanted.
-fn seen<T: Ord + Debug>(name: &str, seen: &BTreeSet<T>, wanted: BTreeSet<T>) -> (String, bool) {
-    let missing: Vec<_> = wanted.difference(seen).collect();
-    let surplus: Vec<_> = seen.difference(&wanted).collect();
-    let all = wanted.len();
-    let mut line = format!("{name} seen {} of {all}\n", all - missing.len());
-    if !missing.is_empty() {
-        line += &format!("NOT SEEN: {missing:?}\n");
-    }
-    if !surplus.is_empty() {
-        line += &format!("SEEN, BUT CANNOT BE: {surplus:?}\n");
-    }
-    (line, missing.is_empty() && surplus.is_empty())
 }

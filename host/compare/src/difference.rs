@@ -2,6 +2,9 @@
 
 use std::fmt::{Debug, Display, Formatter, Result};
 
+/// The way every check ends.
+pub type Checked<T> = std::result::Result<T, Box<Difference>>;
+
 /// A difference: what differs, what both sides were given, and what each made of
 /// it, one field to a line.
 pub struct Difference {

@@ -7,46 +7,55 @@ mod alone;
 mod arbitrary;
 mod arguments;
 mod coverage;
-mod difference;
 mod draw;
-mod options;
 mod session;
 mod spoilt;
 mod suite_lists;
-mod threads;
 mod trial;
 mod walk;
 mod well_formed;
+mod work;
 
-use compare::translate;
-use options::{Request, HELP};
-use std::io::Write;
+use compare::program::{run, Program};
+use compare::{difference, translate};
 use std::process::ExitCode;
 
-/// Prints a line. A reader who has gone does not stop the comparison.
-fn say(line: &str) {
-    let _ = writeln!(std::io::stdout(), "{line}");
-}
+const PROGRAM: Program = Program {
+    name: "compare",
+    help: HELP,
+    counted: "calls",
+    usual: 6_000_000,
+};
+
+const HELP: &str = "\
+Gives random calls to the model of document 01 and to the archive, and compares
+answer, record, actions, payload part and cache after each.
+
+  --calls N     how many calls, at least 1 (default 6000000)
+  --seed S      where the random numbers begin (default 1)
+  --threads T   how many threads share the calls, 1 to 256 (default 1)
+  --help        this text
+
+Exit code 0: no difference, and every transition, refusal, pair of faults and
+spoilt clause was seen, which takes about half a million calls. 1: a difference,
+or something was not seen. 2: wrong arguments. A difference is printed with the
+seed and the number of its call; that seed on one thread meets it again.";
 
 fn main() -> ExitCode {
-    match options::read(std::env::args().skip(1)) {
-        Ok(Request::Help) => {
-            say(HELP);
-            ExitCode::SUCCESS
-        }
-        Ok(Request::Compare(options)) => match threads::compare(&options) {
-            Ok(summary) => {
-                say(&summary);
-                ExitCode::SUCCESS
-            }
-            Err(failure) => {
-                say(&failure);
-                ExitCode::FAILURE
-            }
-        },
-        Err(mistake) => {
-            eprintln!("compare: {mistake}\nTry --help.");
-            ExitCode::from(2)
-        }
+    run(&PROGRAM, work::work)
+}
+
+#[cfg(test)]
+mod tests {
+    use super::PROGRAM;
+
+    #[test]
+    fn steps_five_million_times_by_default() {
+        const { assert!(PROGRAM.usual / 20 * 19 >= 5_000_000) };
+        let default = format!(
+            "--calls N     how many calls, at least 1 (default {})",
+            PROGRAM.usual
+        );
+        assert!(PROGRAM.help.contains(&default));
     }
 }

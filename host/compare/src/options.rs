@@ -1,25 +1,14 @@
-//! The program's arguments.
+//! The arguments of a program.
 
-pub const HELP: &str = "\
-Gives random calls to the model of document 01 and to the archive, and compares
-answer, record, actions, payload part and cache after each.
-
-  --calls N     how many calls, at least 1 (default 6000000)
-  --seed S      where the random numbers begin (default 1)
-  --threads T   how many threads share the calls, 1 to 256 (default 1)
-  --help        this text
-
-Exit code 0: no difference, and every transition, refusal, pair of faults and
-spoilt clause was seen, which takes about half a million calls. 1: a difference,
-or something was not seen. 2: wrong arguments. A difference is printed with the
-seed and the number of its call; that seed on one thread meets it again.";
+use crate::program::Program;
 
 const MOST_THREADS: u64 = 256;
 
 /// What to run.
 #[derive(Clone, Debug, PartialEq, Eq)]
 pub struct Options {
-    pub calls: u64,
+    /// How many comparisons.
+    pub count: u64,
     pub seed: u64,
     pub threads: u64,
 }
@@ -31,18 +20,18 @@ pub enum Request {
 }
 
 /// Reads the arguments; a mistake in them comes back as a sentence.
-pub fn read(mut words: impl Iterator<Item = String>) -> Result<Request, String> {
+pub fn read(program: &Program, mut words: impl Iterator<Item = String>) -> Result<Request, String> {
     let mut options = Options {
-        calls: 6_000_000,
+        count: program.usual,
         seed: 1,
         threads: 1,
     };
     while let Some(word) = words.next() {
         let slot = match word.as_str() {
             "--help" | "-h" => return Ok(Request::Help),
-            "--calls" => &mut options.calls,
             "--seed" => &mut options.seed,
             "--threads" => &mut options.threads,
+            other if other.strip_prefix("--") == Some(program.counted) => &mut options.count,
             _ => return Err(format!("there is no argument \"{word}\"")),
         };
         let value = words
@@ -55,8 +44,8 @@ pub fn read(mut words: impl Iterator<Item = String>) -> Result<Request, String> 
             )
         })?;
     }
-    if options.calls == 0 {
-        return Err("--calls must be at least 1".into());
+    if options.count == 0 {
+        return Err(format!("--{} must be at least 1", program.counted));
     }
     if !(1..=MOST_THREADS).contains(&options.threads) {
         return Err(format!("--threads must be 1 to {MOST_THREADS}"));
@@ -66,26 +55,34 @@ pub fn read(mut words: impl Iterator<Item = String>) -> Result<Request, String> 
 
 #[cfg(test)]
 mod tests {
-    use super::{read, Options, Request, HELP};
+    use super::{read, Options, Request};
+    use crate::program::Program;
+
+    const PROGRAM: Program = Program {
+        name: "tested",
+        help: "",
+        counted: "calls",
+        usual: 7,
+    };
 
     fn of(line: &str) -> Result<Request, String> {
-        read(line.split_whitespace().map(String::from))
+        read(&PROGRAM, line.split_whitespace().map(String::from))
     }
 
     #[test]
-    fn has_defaults_that_step_five_million_times() {
-        let Ok(Request::Compare(options)) = of("") else {
-            panic!("no arguments are not read");
+    fn has_defaults() {
+        let wanted = Options {
+            count: 7,
+            seed: 1,
+            threads: 1,
         };
-        assert_eq!((options.seed, options.threads), (1, 1));
-        assert!(options.calls / 20 * 19 >= 5_000_000);
-        assert!(HELP.contains(&format!("(default {})", options.calls)));
+        assert_eq!(of(""), Ok(Request::Compare(wanted)));
     }
 
     #[test]
     fn reads_all_three() {
         let wanted = Options {
-            calls: 1_000_000_000,
+            count: 1_000_000_000,
             seed: 18_446_744_073_709_551_615,
             threads: 2,
         };
@@ -97,12 +94,14 @@ mod tests {
     fn rejects_what_it_cannot_read() {
         let lines = [
             "--call 5",
+            "--inputs 5",
             "--calls",
             "--calls many",
             "--calls -1",
             "--calls 0",
             "--threads 0",
             "--threads 257",
+            "calls 5",
             "5",
         ];
         for line in lines {

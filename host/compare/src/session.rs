@@ -1,11 +1,7 @@
 //! What all calls of one thread share.
 
 use crate::coverage::Coverage;
-use crate::difference::Difference;
 use model::random::Random;
-
-/// The way every check ends.
-pub type Checked<T> = Result<T, Box<Difference>>;
 
 /// The random numbers, the bytes that payloads are cut from, and what was seen.
 pub struct Session<'a> {

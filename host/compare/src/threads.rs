@@ -1,53 +1,80 @@
-//! The threads that share the calls, and what they report.
+//! The threads that share the comparisons, and what they report.
 
-use crate::alone;
-use crate::arbitrary::Arbitrary;
-use crate::coverage::Coverage;
-use crate::difference::Difference;
+use crate::difference::{Checked, Difference};
 use crate::options::Options;
-use crate::say;
-use crate::session::{Checked, Session};
-use crate::walk::Walk;
+use crate::program::{say, Program};
+use crate::seen::Coverage;
 use model::random::Random;
 use std::iter::once;
 use std::sync::mpsc::{channel, Receiver, Sender};
 use std::thread;
 use std::time::Instant;
 
-/// Calls between two reports of a thread.
+/// Comparisons between two reports of a thread.
 const BATCH: u64 = 1_000;
 
-/// Bytes that payloads are cut from.
-const BYTES: usize = 1 << 16;
-
 /// What a thread reports.
-enum Report {
-    Calls(u64),
+enum Report<C> {
+    Done(u64),
     Differs(u64, u64, Box<Difference>),
-    Finished(Coverage),
+    Finished(C),
+}
+
+/// A thread's way to report.
+pub struct Reporter<C> {
+    seed: u64,
+    sender: Sender<Report<C>>,
+}
+
+impl<C> Reporter<C> {
+    /// Makes so many comparisons, each told its number from 1, and reports. None
+    /// if there was a difference, or if nobody listens any more.
+    pub fn make(&self, count: u64, mut compare: impl FnMut(u64) -> Checked<()>) -> Option<()> {
+        for number in 1..=count {
+            if let Err(difference) = compare(number) {
+                let _ = self
+                    .sender
+                    .send(Report::Differs(self.seed, number, difference));
+                return None;
+            }
+            if number % BATCH == 0 {
+                self.sender.send(Report::Done(BATCH)).ok()?;
+            }
+        }
+        self.sender.send(Report::Done(count % BATCH)).ok()
+    }
 }
 
 /// Runs the comparison. A summary comes back if nothing differed and everything
 /// asked for was seen, else what went wrong.
-pub fn compare(options: &Options) -> Result<String, String> {
+pub fn compare<C: Coverage>(
+    program: &Program,
+    options: &Options,
+    work: fn(u64, u64, &Reporter<C>) -> Option<C>,
+) -> Result<String, String> {
     let (sender, receiver) = channel();
     let mut derived = Random::new(options.seed);
     let seeds = once(options.seed).chain(std::iter::repeat_with(|| derived.next_u64()));
     for (thread, seed) in (0..options.threads).zip(seeds) {
-        let extra = u64::from(thread < options.calls % options.threads);
-        let calls = options.calls / options.threads + extra;
+        let extra = u64::from(thread < options.count % options.threads);
+        let count = options.count / options.threads + extra;
         let sender = sender.clone();
-        thread::spawn(move || work(seed, calls, &sender));
+        thread::spawn(move || {
+            let reporter = Reporter { seed, sender };
+            if let Some(coverage) = work(seed, count, &reporter) {
+                let _ = reporter.sender.send(Report::Finished(coverage));
+            }
+        });
     }
     drop(sender);
-    let coverage = listen(options, &receiver)?;
-    let (summary, complete) = coverage.summary();
+    let (summary, complete) = listen(program, options, &receiver)?.summary();
     let Options {
-        calls,
+        count,
         seed,
         threads,
     } = options;
-    let head = format!("calls {calls}, seed {seed}, threads {threads}\n{summary}");
+    let counted = program.counted;
+    let head = format!("{counted} {count}, seed {seed}, threads {threads}\n{summary}");
     if complete {
         Ok(head + "no difference")
     } else {
@@ -56,23 +83,25 @@ pub fn compare(options: &Options) -> Result<String, String> {
 }
 
 /// Prints a line for every tenth of the work until all threads have finished.
-fn listen(options: &Options, receiver: &Receiver<Report>) -> Result<Coverage, String> {
+fn listen<C: Coverage>(
+    program: &Program,
+    options: &Options,
+    receiver: &Receiver<Report<C>>,
+) -> Result<C, String> {
     let begin = Instant::now();
-    let mut coverage = Coverage::default();
+    let mut coverage = C::default();
     let mut done = 0;
     let mut finished = 0;
     for report in receiver {
         match report {
-            Report::Calls(more) => {
-                let tenth = |calls: u64| u128::from(calls) * 10 / u128::from(options.calls);
+            Report::Done(more) => {
+                let tenth = |count: u64| u128::from(count) * 10 / u128::from(options.count);
                 let before = tenth(done);
                 done += more;
                 if tenth(done) > before {
+                    let (all, counted) = (options.count, program.counted);
                     let seconds = begin.elapsed().as_secs_f64();
-                    say(&format!(
-                        "{done} of {} calls, {seconds:.1} s",
-                        options.calls
-                    ));
+                    say(&format!("{done} of {all} {counted}, {seconds:.1} s"));
                 }
             }
             Report::Finished(seen) => {
@@ -80,7 +109,7 @@ fn listen(options: &Options, receiver: &Receiver<Report>) -> Result<Coverage, St
                 finished += 1;
             }
             Report::Differs(seed, number, difference) => {
-                let place = format!("seed {seed}, call {number}");
+                let place = format!("seed {seed}, number {number} of the {}", program.counted);
                 return Err(format!("DIFFERENCE, {place}: {difference}"));
             }
         }
@@ -89,44 +118,5 @@ fn listen(options: &Options, receiver: &Receiver<Report>) -> Result<Coverage, St
         Ok(coverage)
     } else {
         Err("FAILED: a thread broke off".into())
-    }
-}
-
-/// One thread's calls. It stops early if nobody listens any more.
-fn work(seed: u64, calls: u64, sender: &Sender<Report>) {
-    let mut random = Random::new(seed);
-    let bytes: Vec<u8> = (0..BYTES).map(|_| random.next_u32() as u8).collect();
-    let mut session = Session {
-        random,
-        bytes: &bytes,
-        coverage: Coverage::default(),
-    };
-    let mut walk = Walk::new(&bytes);
-    let mut arbitrary = Arbitrary::new(&bytes);
-    for number in 1..=calls {
-        if let Err(difference) = call(number, &mut walk, &mut arbitrary, &mut session) {
-            let _ = sender.send(Report::Differs(seed, number, difference));
-            return;
-        }
-        if number % BATCH == 0 && sender.send(Report::Calls(BATCH)).is_err() {
-            return;
-        }
-    }
-    let _ = sender.send(Report::Calls(calls % BATCH));
-    let _ = sender.send(Report::Finished(session.coverage));
-}
-
-/// The kind of a call depends on its number alone, so that the same seed makes
-/// the same calls however many are asked for.
-fn call(
-    number: u64,
-    walk: &mut Walk,
-    arbitrary: &mut Arbitrary,
-    session: &mut Session,
-) -> Checked<()> {
-    match number % 20 {
-        0..=11 => walk.call(session),
-        12..=18 => arbitrary.call(session),
-        _ => alone::call(session),
     }
 }

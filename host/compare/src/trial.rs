@@ -1,8 +1,7 @@
 //! One call given to the model and to the archive, and everything compared.
 
 use crate::arguments::{Arguments, CACHE_ROOM};
-use crate::difference::Difference;
-use crate::session::Checked;
+use crate::difference::{Checked, Difference};
 use crate::translate;
 use menhotrac::raw::{self, Actions, Connection, HANDLED, WRONG_VERDICT};
 use model::{code, refusal, slice, step, Record, Sheet};

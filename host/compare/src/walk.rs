@@ -1,9 +1,9 @@
 //! Random runs from fresh, on which the model's five notes are asked as well.
 
 use crate::arguments::Arguments;
-use crate::difference::Difference;
+use crate::difference::{Checked, Difference};
 use crate::draw;
-use crate::session::{Checked, Session};
+use crate::session::Session;
 use crate::trial::{part, Outcome, Sides};
 use menhotrac::raw::{self, HANDLED, IGNORED, WRONG_VERDICT};
 use model::{code, message, Answer, Notes, Predicted, Record};

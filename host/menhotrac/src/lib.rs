@@ -5,8 +5,8 @@
 //! attestation drivers and the check of a token's signature stay in the host.
 //!
 //! A host keeps a [`Connection`] and a cache of [`CACHE_LEN`] bytes for each peer. Whatever happens is an [`Event`]:
-//! the host makes one call of [`Connection::step`] and carries out the [`Actions`]. "Document 01" in comments is the
-//! paper that fixes states, events, refusals and the order sheet.
+//! the host makes one call of [`Connection::step`] and carries out the [`Actions`]. What the peer has sent is read by
+//! [`Received::read`]. "Document 01" in comments is the paper that fixes states, events, refusals and the order sheet.
 //!
 //! # Example
 //!
@@ -94,8 +94,11 @@ mod message;
 mod numbered;
 #[allow(unsafe_code)]
 pub mod raw;
+mod read_refusal;
+mod received;
 mod refusal;
 mod state;
+mod suite_list;
 mod suites;
 mod tag;
 mod token;
@@ -104,8 +107,11 @@ pub use actions::{Actions, DatTimerOrder, DriverOrder, TimerOrder, Timers};
 pub use connection::{Answer, Connection, CACHE_LEN};
 pub use event::{Event, HandshakeTimer, MAX_PAYLOAD_LEN};
 pub use message::{Bit, Message};
+pub use read_refusal::ReadRefusal;
+pub use received::Received;
 pub use refusal::Refusal;
 pub use state::State;
+pub use suite_list::SuiteList;
 pub use suites::{choose_suites, Choice, Lists, Suites, MAX_LIST_LEN};
 pub use tag::{Tag, Tags};
 pub use token::{seconds_left, Token};

@@ -2,6 +2,8 @@
 
 use core::mem::{align_of, offset_of, size_of};
 
+use crate::suites::MAX_LIST_LEN;
+
 /// The record of a connection: document 01's record, one number for each field.
 #[repr(C)]
 #[derive(Clone, Copy, Debug, Default, PartialEq, Eq)]
@@ -118,6 +120,31 @@ pub struct Choice {
     pub prover: u32,
 }
 
+/// What was read from the peer's bytes. All but the answer is 0 where the bytes are refused.
+#[repr(C)]
+#[derive(Clone, Copy, Debug, Default, PartialEq, Eq)]
+pub struct Message {
+    /// `READ`, or the refusal, as [`ReadRefusal`](crate::ReadRefusal) numbers it.
+    pub answer: u32,
+    /// 1 to 9, as [`Message`](crate::Message) numbers it.
+    pub message: u32,
+    /// The bit of a DATA or ACK, else 0.
+    pub bit: u32,
+    /// How many suites a HELLO names for the peer's prover, else 0.
+    pub provers: u32,
+    /// How many suites a HELLO names for the peer's verifier, else 0.
+    pub verifiers: u32,
+    /// Where the token or payload begins in the bytes; 0 where there is none.
+    pub place: usize,
+    /// The length of the token or payload.
+    pub len: usize,
+}
+
+/// Room for a suite list.
+pub type SuiteEntries = [u32; MAX_LIST_LEN];
+
+/// The answer to bytes that are a message.
+pub const READ: u32 = 0;
 /// The answer to a handled call.
 pub const HANDLED: u32 = 0;
 /// The refusal of a verdict that is neither 0 nor 1. The numbers from 1 to 8 are document 01's refusals.
@@ -159,9 +186,16 @@ extern "C" {
         our_provers_len: usize,
         chosen: *mut [u32; 4],
     ) -> u32;
+
+    fn menhotrac_read(
+        bytes: *const u8,
+        bytes_len: usize,
+        provers: *mut SuiteEntries,
+        verifiers: *mut SuiteEntries,
+    ) -> Message;
 }
 
-// The archive takes record and actions as 12 and 16 numbers, and the event in C's layout.
+// The archive takes record and actions as 12 and 16 numbers, and event and message in C's layout.
 const _: () = {
     assert!(size_of::<Connection>() == 12 * 4 && align_of::<Connection>() == 4);
     assert!(offset_of!(Connection, handled) == 5 * 4 && offset_of!(Connection, ack) == 11 * 4);
@@ -169,6 +203,10 @@ const _: () = {
     assert!(offset_of!(Actions, deliver) == 11 * 4 && offset_of!(Actions, payload_len) == 15 * 4);
     assert!(size_of::<Event>() == 40 && align_of::<Event>() == 8);
     assert!(offset_of!(Event, verdict) == 16 && offset_of!(Event, expiry) == 24);
+    assert!(size_of::<Message>() == 40 && align_of::<Message>() == 8);
+    assert!(offset_of!(Message, verifiers) == 4 * 4);
+    assert!(offset_of!(Message, place) == 24 && offset_of!(Message, len) == 32);
+    assert!(size_of::<SuiteEntries>() == 16 * 4 && align_of::<SuiteEntries>() == 4);
 };
 
 /// The record of a new connection.
@@ -245,4 +283,13 @@ pub fn choose_suites(lists: &Lists) -> Choice {
         prover_found,
         prover,
     }
+}
+
+/// Reads one message, which has to be all of the bytes. A HELLO's suites are written into the two lists, with zeros
+/// behind them; otherwise the lists keep what they hold.
+#[inline]
+pub fn read(bytes: &[u8], provers: &mut SuiteEntries, verifiers: &mut SuiteEntries) -> Message {
+    // SAFETY: the pointer to the bytes comes with their length, the other two are to whole lists. What is written is
+    // lent by `&mut`, so nothing overlaps it. The archive is proved to stay within what it is lent.
+    unsafe { menhotrac_read(bytes.as_ptr(), bytes.len(), provers, verifiers) }
 }

@@ -6,6 +6,9 @@
 //! a difference here.
 //!
 //! Records and events hold plain numbers, so that malformed ones can be given.
+//!
+//! [`wire`] reads the peer's messages from bytes. It shares no line with the
+//! library either, but is written to be quick, as the benchmark's other side.
 
 #![forbid(unsafe_code)]
 
@@ -21,6 +24,7 @@ mod table;
 mod timers;
 mod token;
 mod turn;
+pub mod wire;
 
 pub use call::{carries_token, code, Call, Event};
 pub use notes::{Notes, Predicted};

@@ -5,6 +5,7 @@ mod boot_run;
 mod locked;
 mod numbers;
 mod parts;
+mod received;
 mod refusals;
 mod suites;
 mod support;

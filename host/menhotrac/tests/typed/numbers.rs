@@ -1,6 +1,8 @@
 //! The numbers of every enum, both ways.
 
-use menhotrac::{Bit, DriverOrder, HandshakeTimer, Message, Refusal, State, TimerOrder};
+use menhotrac::{
+    Bit, DriverOrder, HandshakeTimer, Message, ReadRefusal, Refusal, State, TimerOrder,
+};
 
 use crate::support::{every_event, CARRIED};
 
@@ -75,6 +77,23 @@ fn refusals() {
         Refusal::NumberExhausted,
     ];
     assert_numbered!(Refusal, 1, cases);
+    for (at, refusal) in cases.into_iter().enumerate() {
+        for other in &cases[..at] {
+            assert_ne!(refusal.to_string(), other.to_string());
+        }
+    }
+}
+
+#[test]
+fn read_refusals() {
+    let cases = [
+        ReadRefusal::Cut,
+        ReadRefusal::UnknownField,
+        ReadRefusal::WrongWireType,
+        ReadRefusal::TooLarge,
+        ReadRefusal::ListTooLong,
+    ];
+    assert_numbered!(ReadRefusal, 21, cases);
     for (at, refusal) in cases.into_iter().enumerate() {
         for other in &cases[..at] {
             assert_ne!(refusal.to_string(), other.to_string());

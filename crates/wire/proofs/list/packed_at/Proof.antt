@@ -1,0 +1,55 @@
+-- `wire::list::packed_at` meets its contract.
+use mathlib.Core.Path.{_≡_, refl, sym, ap, subst, _∙_}
+use native.Mathlib.Omega.{arith}
+use borrow.Author.Needs.{needs}
+use lib.Seq.{length-take-le}
+use Rattle.wire.specs.Parts.{Padded, blockOf, countedIn, mapped}
+use Rattle.wire.specs.declared.list.Counted.{Counted}
+use Rattle.wire.proofs.Lists.{packed-faulty, packed-list}
+use Rattle.wire.proofs.Places.{block-within}
+use Rattle.wire.proofs.list.packed_at.Statement.{statement}
+use Rattle.wire.proofs.list.packed_at.Tie as tie
+
+add-end : tie.Need-add-end
+add-end c =
+    let e = sym (c .before .before .before .«block-at» .ensures) ∙ ap blockOf (c .before .part2 .given .1) in
+    omega (arith, block-within _ _ _ _ e .1, c .before .before .before .before .before .good .0)
+
+slice-aggregate-entries : tie.Need-slice-aggregate-entries
+slice-aggregate-entries c =
+    let e = sym (c .before .before .before .before .«block-at» .ensures) ∙ ap blockOf (c .before .before .part2 .given .1) in
+    sym (length-take-le _ _ (block-within _ _ _ _ e .1))
+
+returns : tie.Need-returns
+returns c =
+    let e = sym (c .before .before .before .«block-at» .ensures) ∙ ap blockOf (c .before .part .given .1) in
+    (sym (packed-faulty _ _ _ e), refl)
+
+returns-2 : tie.Need-returns-2
+returns-2 c =
+    let e = sym (c .before .before .before .before .before .before .before .before .«block-at» .ensures) ∙ ap blockOf (c .before .before .before .before .before .before .part2 .given .1) in
+    let r = sym (c .before .before .before .entries .ensures .0) ∙ ap (λ (k : Counted). countedIn k (c .before .before .before .entries .result .entries)) (c .before .counted .given .1) in
+    (sym (packed-list _ _ _ _ e ∙ ap (mapped _) r), refl)
+
+returns-3 : tie.Need-returns-3
+returns-3 c =
+    let e = sym (c .before .before .before .before .before .before .before .before .before .«block-at» .ensures) ∙ ap blockOf (c .before .before .before .before .before .before .before .part2 .given .1) in
+    let l = c .before .before .before .before .entries in
+    let r = sym (l .ensures .0) ∙ ap (λ (k : Counted). countedIn k (l .result .entries)) (c .before .before .counted2 .given .1) in
+    (sym (packed-list _ _ _ _ e ∙ ap (mapped _) r), subst (λ (k : Counted). Padded k (l .result .entries)) (c .before .before .counted2 .given .1) (l .ensures .1))
+
+pub packed-at-spec : {M : Type 1} → statement M
+packed-at-spec =
+    tie.close
+    (tie.spec
+    (λ c κs. search needs)
+    (λ c. search needs)
+    (λ c. search needs)
+    add-end
+    slice-aggregate-entries
+    (λ c κs. search needs)
+    (λ c. search needs)
+    (λ c. search needs)
+    returns
+    returns-2
+    returns-3)

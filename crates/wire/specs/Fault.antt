@@ -1,0 +1,50 @@
+-- Request #101: a fault stands at a place and has a refusal's number; the first from the left is given, and of two at one
+-- place the lower number.
+use Prim.Native.Nat.{ℕ}
+use mathlib.Core.Bool.{Bool, cond, _&&_, _||_}
+use mathlib.Core.List.{List, [], _∷_}
+use mathlib.Core.Option.{Option, none, some}
+use lib.Dec.{eqb, ltb}
+
+pub record Fault : Type 0 where
+  pub place : ℕ
+  pub number : ℕ
+
+abbrev pub at : (place number : ℕ) → Fault
+at place number = record { place = place; number = number }
+
+-- Whether a fault comes before another: further left, or at the same place with a lower number.
+abbrev pub before : Fault → Fault → Bool
+before f g = ltb (f .place) (g .place) || (eqb (f .place) (g .place) && ltb (f .number) (g .number))
+
+-- The first of a fault and the first of others.
+abbrev pub firstOf : Fault → Option Fault → Option Fault
+firstOf f none = some f
+firstOf f (some g) = cond (before g f) (some g) (some f)
+
+-- The first fault from the left, whatever the order in which they are listed.
+unfoldable pub leftmost : List Fault → Option Fault
+leftmost [] = none
+leftmost (f ∷ fs) = firstOf f (leftmost fs)
+
+-- A fault where a test holds.
+abbrev pub given : Bool → Fault → List Fault
+given holds f = cond holds (f ∷ []) []
+
+-- The faults of a key; if it shows none, those of what it announces.
+abbrev pub orElse : List Fault → List Fault → List Fault
+orElse [] others = others
+orElse (f ∷ fs) others = f ∷ fs
+
+-- What reading gives: what was read, or a refusal's number and nothing else.
+pub data Reading (A : Type 0) : Type 0 where
+  readAs : A → Reading A
+  refused : (number : ℕ) → Reading A
+
+abbrev pub byFirst : {A : Type 0} → Option Fault → A → Reading A
+byFirst none read = readAs read
+byFirst (some f) read = refused (f .number)
+
+-- Bytes are refused by their first fault from the left, and read if they show none.
+abbrev pub judged : {A : Type 0} → List Fault → A → Reading A
+judged faults read = byFirst (leftmost faults) read

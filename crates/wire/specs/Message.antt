@@ -1,0 +1,107 @@
+-- Request #101: what a message without a fault says. An absent field reads as empty or 0.
+use Prim.Native.Nat.{ℕ, zero, suc, _+_}
+use mathlib.Core.List.{List, [], _∷_, map}
+use lib.ListN.{take, getD}
+use Rattle.wire.specs.Varint.{Number, value, fault, numberAt, bitAt}
+use Rattle.wire.specs.Layout.{Block, block, faulty, blockAt, fieldNumber, fieldsFrom, entriesFrom}
+use Rattle.wire.specs.Schema.{formIn}
+use Rattle.wire.specs.Fault.{Reading, judged}
+use Rattle.wire.specs.Faults.{faultsOf}
+use Rattle.wire.specs.declared.schema.Form.{Form}
+use Rattle.wire.specs.declared.schema.Form.the-variants.{Unknown, Bytes, Provers, Verifiers, Bit}
+
+-- A message: its number; where its token or payload lies in the lent bytes, and how long it is; its bit; its suites.
+pub record Message : Type 0 where
+  pub number : ℕ
+  pub place : ℕ
+  pub size : ℕ
+  pub bit : ℕ
+  pub provers : List ℕ
+  pub verifiers : List ℕ
+
+-- A message, by its parts in their order.
+abbrev pub made : (number place size bit : ℕ) (provers verifiers : List ℕ) → Message
+made number place size bit provers verifiers = record {
+  number = number;
+  place = place;
+  size = size;
+  bit = bit;
+  provers = provers;
+  verifiers = verifiers;
+}
+
+-- A message of which no field has been read.
+abbrev pub empty : ℕ → Message
+empty number = made number 0 0 0 [] []
+
+-- The number that was read. After a fault nothing is read, and the 0 is not used.
+abbrev pub numberIn : Number → ℕ
+numberIn (value number next) = number
+numberIn (fault refusal) = 0
+
+-- The entries of a packed list, from `start` to the list's end.
+abbrev pub suitesFrom : (list : List ℕ) (start : ℕ) → List ℕ
+suitesFrom list start = map (λ place. numberIn (numberAt list place)) (entriesFrom list start)
+
+abbrev pub suitesIn : List ℕ → Block → List ℕ
+suitesIn message (block start size) = suitesFrom (take (start + size) message) start
+suitesIn message (faulty refusal) = []
+
+abbrev pub startIn : Block → ℕ
+startIn (block start size) = start
+startIn (faulty refusal) = 0
+
+abbrev pub sizeIn : Block → ℕ
+sizeIn (block start size) = size
+sizeIn (faulty refusal) = 0
+
+-- A message with what a field of a form holds at a place.
+abbrev pub filled : Form → (bytes : List ℕ) (place : ℕ) → Message → Message
+filled Unknown bytes place m = m
+filled Bytes bytes place m =
+    made (m .number) (startIn (blockAt bytes place)) (sizeIn (blockAt bytes place)) (m .bit) (m .provers) (m .verifiers)
+filled Provers bytes place m =
+    made (m .number) (m .place) (m .size) (m .bit) (suitesIn bytes (blockAt bytes place)) (m .verifiers)
+filled Verifiers bytes place m =
+    made (m .number) (m .place) (m .size) (m .bit) (m .provers) (suitesIn bytes (blockAt bytes place))
+filled Bit bytes place m =
+    made (m .number) (m .place) (m .size) (numberIn (bitAt bytes place)) (m .provers) (m .verifiers)
+
+-- A message with what the field of a key holds.
+abbrev pub withField : (bytes : List ℕ) → Number → Message → Message
+withField bytes (value key next) m = filled (formIn (m .number) (fieldNumber key)) bytes next m
+withField bytes (fault refusal) m = m
+
+-- A message with what its fields hold.
+unfoldable pub withFields : (bytes : List ℕ) → List ℕ → Message → Message
+withFields bytes [] m = m
+withFields bytes (place ∷ places) m = withFields bytes places (withField bytes (numberAt bytes place) m)
+
+-- The parts that a message carries. The others are empty or 0.
+abbrev pub carried : Message → Message
+carried m =
+    let none = empty (m .number) in
+    let bytes = made (m .number) (m .place) (m .size) 0 [] [] in
+    let hello = made 1 (m .place) (m .size) 0 (m .provers) (m .verifiers) in
+    let dataOf = made 8 (m .place) (m .size) (m .bit) [] [] in
+    let ack = made 9 0 0 (m .bit) [] [] in
+    getD (none ∷ hello ∷ none ∷ none ∷ bytes ∷ none ∷ bytes ∷ bytes ∷ dataOf ∷ ack ∷ []) (m .number) none
+
+-- The one message in an outer field.
+abbrev pub messageIn : (number : ℕ) (bytes : List ℕ) → Block → Message
+messageIn number bytes (block start size) =
+    let message = take (start + size) bytes in
+    carried (withFields message (fieldsFrom message start) (empty number))
+messageIn number bytes (faulty refusal) = empty number
+
+abbrev pub messageBy : List ℕ → Number → Message
+messageBy bytes (value key next) = messageIn (fieldNumber key) bytes (blockAt bytes next)
+messageBy bytes (fault refusal) = empty 0
+
+-- What lent bytes say if they show no fault.
+abbrev pub messageOf : List ℕ → Message
+messageOf bytes = messageBy bytes (numberAt bytes 0)
+
+-- What lent bytes are read as.
+unfoldable pub readingOf : List ℕ → Reading Message
+readingOf bytes = judged (faultsOf bytes) (messageOf bytes)

@@ -1,0 +1,58 @@
+-- Document 01, "The forms we expect": the number and values of request #101 for each case of the enums that the code answers with;
+-- what the lent lists hold afterwards, and the bytes of a span.
+use Prim.Native.Nat.{ℕ, _+_, _-_}
+use mathlib.Core.Bool.{cond}
+use mathlib.Core.List.{List, [], _∷_, _++_}
+use lib.Dec.{eqb, ltb}
+use lib.ListN.{length, take, drop, replicate}
+use Rattle.wire.specs.Fault.{Reading, readAs, refused}
+use Rattle.wire.specs.Message.{made, empty}
+use Rattle.wire.specs.Message as spec
+use Rattle.wire.specs.declared.Message.{Message}
+use Rattle.wire.specs.declared.Message.the-variants.{Hello, Close, DatExpired, Dat, ReRa, RaProver, RaVerifier, Data, Ack, Refused}
+use Rattle.wire.specs.declared.Span.{Span}
+use Rattle.wire.specs.declared.Refusal.{Refusal}
+use Rattle.wire.specs.declared.Refusal.the-variants.{EndsTooSoon, UnexpectedField, WrongWireType, NumberTooLarge, TooManySuites}
+
+-- The refusals.
+abbrev pub refusalNumber : Refusal → ℕ
+refusalNumber EndsTooSoon = 21
+refusalNumber UnexpectedField = 22
+refusalNumber WrongWireType = 23
+refusalNumber NumberTooLarge = 24
+refusalNumber TooManySuites = 25
+
+-- The first `count` entries of a list, and 0 for each that it lacks: always `count` of them.
+abbrev pub entries : (count : ℕ) → List ℕ → List ℕ
+entries count list = take count list ++ replicate (count - length list) 0
+
+-- An answer, with the two lists that were lent: a hello's suites are the first entries of each.
+abbrev pub readingIn : Message → (provers verifiers : List ℕ) → Reading spec.Message
+readingIn (Hello token p v) provers verifiers = readAs (made 1 (token .place) (token .size) 0 (entries p provers) (entries v verifiers))
+readingIn Close provers verifiers = readAs (empty 2)
+readingIn DatExpired provers verifiers = readAs (empty 3)
+readingIn (Dat token) provers verifiers = readAs (made 4 (token .place) (token .size) 0 [] [])
+readingIn ReRa provers verifiers = readAs (empty 5)
+readingIn (RaProver payload) provers verifiers = readAs (made 6 (payload .place) (payload .size) 0 [] [])
+readingIn (RaVerifier payload) provers verifiers = readAs (made 7 (payload .place) (payload .size) 0 [] [])
+readingIn (Data payload bit) provers verifiers = readAs (made 8 (payload .place) (payload .size) bit [] [])
+readingIn (Ack bit) provers verifiers = readAs (made 9 0 0 bit [] [])
+readingIn (Refused refusal) provers verifiers = refused (refusalNumber refusal)
+
+-- A list of suites in sixteen entries, the others 0.
+abbrev pub padded : List ℕ → List ℕ
+padded suites = suites ++ replicate (16 - length suites) 0
+
+-- What stands in the two lent lists after a reading: a hello's suites and then zeros; else they keep their entries.
+abbrev pub proversAfter : Reading spec.Message → List ℕ → List ℕ
+proversAfter (readAs m) provers = cond (eqb (m .number) 1) (padded (m .provers)) provers
+proversAfter (refused number) provers = provers
+
+abbrev pub verifiersAfter : Reading spec.Message → List ℕ → List ℕ
+verifiersAfter (readAs m) verifiers = cond (eqb (m .number) 1) (padded (m .verifiers)) verifiers
+verifiersAfter (refused number) verifiers = verifiers
+
+-- The bytes at a span; none where it does not lie within them.
+unfoldable pub partOf : List ℕ → Span → List ℕ
+partOf bytes span =
+    cond (ltb (length bytes) (span .place + span .size)) [] (take (span .size) (drop (span .place) bytes))

@@ -1,0 +1,44 @@
+//! The calls of one thread.
+
+use crate::alone;
+use crate::arbitrary::Arbitrary;
+use crate::coverage::Coverage;
+use crate::difference::Checked;
+use crate::session::Session;
+use crate::walk::Walk;
+use compare::threads::Reporter;
+use model::random::Random;
+
+/// Bytes that payloads are cut from.
+const BYTES: usize = 1 << 16;
+
+pub fn work(seed: u64, calls: u64, reporter: &Reporter<Coverage>) -> Option<Coverage> {
+    let mut random = Random::new(seed);
+    let bytes: Vec<u8> = (0..BYTES).map(|_| random.next_u32() as u8).collect();
+    let mut session = Session {
+        random,
+        bytes: &bytes,
+        coverage: Coverage::default(),
+    };
+    let mut walk = Walk::new(&bytes);
+    let mut arbitrary = Arbitrary::new(&bytes);
+    reporter.make(calls, |number| {
+        call(number, &mut walk, &mut arbitrary, &mut session)
+    })?;
+    Some(session.coverage)
+}
+
+/// The kind of a call depends on its number alone, so that the same seed makes
+/// the same calls however many are asked for.
+fn call(
+    number: u64,
+    walk: &mut Walk,
+    arbitrary: &mut Arbitrary,
+    session: &mut Session,
+) -> Checked<()> {
+    match number % 20 {
+        0..=11 => walk.call(session),
+        12..=18 => arbitrary.call(session),
+        _ => alone::call(session),
+    }
+}
