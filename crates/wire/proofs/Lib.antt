@@ -5,3 +5,6 @@ pub mod Forms
 pub mod Lists
 pub mod Contents
 pub mod Numbers
+pub mod FieldSteps
+pub mod OneField
+pub mod Onward

@@ -1,12 +1,12 @@
 -- The set of the fields that have been read.
-use mathlib.Core.Path.{_≡_, refl, sym, ap, subst}
+use mathlib.Core.Path.{_≡_, refl, sym, ap, subst, _∙_}
 use mathlib.Core.Bool.{Bool, true, false, _&&_, _||_}
 use mathlib.Core.List.{List, [], _∷_}
-use mathlib.Core.Logic.{_⊎_, inl, inr}
 use Prim.Native.Nat.{ℕ, zero, suc, _≤_, _<_}
 use native.Mathlib.Omega.{arith}
-use lib.Dec.{eqb}
-use lib.ListN.{getD}
+use lib.Dec.{eqb, ltb}
+use borrow.Author.Tests.{ltb-true, ltb-false}
+use lib.ListN.{length, getD, drop, List·getD-eq-default}
 use Rattle.wire.specs.Schema.{schema, formIn, isUnknown}
 use Rattle.wire.specs.Faults.{FieldNumbers, noNumbers, adding}
 use Rattle.wire.specs.Parts.{seenIn, marked, isList}
@@ -47,22 +47,54 @@ one-marked (suc (suc zero)) h j fields = λ i n. second-more (eqb n 1 && fields 
 one-marked (suc (suc (suc zero))) h j fields = λ i n. third-more (eqb n 1 && fields .first) (eqb n 2 && fields .second) (eqb n 3) (fields .third) i
 one-marked (suc (suc (suc (suc k)))) h j fields = absurd (omega arith)
 
--- A row of the schema knows the numbers 1 to 3 at most.
-abbrev Row : List Form → Type 0
-Row row = (k : ℕ) → isUnknown (getD row k Unknown) ≡ false → (1 ≤ k) × (k ≤ 3)
+-- What holds of every row of a list of rows, and of the empty one, holds of the row at any place.
+abbrev Every : (List Form → Type 0) → List (List Form) → Type 0
+Every P [] = Unit {0}
+Every P (row ∷ rows) = P row × Every P rows
 
-abbrev Rows : List (List Form) → Type 0
-Rows [] = Unit {0}
-Rows (row ∷ rows) = Row row × Rows rows
+row-at : (P : List Form → Type 0) → P [] → (rows : List (List Form)) → Every P rows → (m : ℕ) → P (getD rows m [])
+row-at P d [] a m = d
+row-at P d (row ∷ rows) a zero = a .0
+row-at P d (row ∷ rows) a (suc m) = row-at P d rows (a .1) m
 
-row-of : (rows : List (List Form)) → Rows rows → (m : ℕ) → Row (getD rows m [])
-row-of [] r m = λ k e. absurd-bool e
-row-of (row ∷ rows) r zero = r .0
-row-of (row ∷ rows) r (suc m) = row-of rows (r .1) m
+-- A message has three fields at most, from number 1 on.
+abbrev Short : List Form → Type 0
+Short [] = Unit {0}
+Short (f ∷ row) = (f ≡ Unknown) × (length row ≤ 3)
 
-short : (a b c : Form) → Row (Unknown ∷ a ∷ b ∷ c ∷ [])
-short a b c zero e = absurd-bool e
-short a b c (suc zero) e = (omega arith, omega arith)
-short a b c (suc (suc zero)) e = (omega arith, omega arith)
-short a b c (suc (suc (suc zero))) e = (omega arith, omega arith)
-short a b c (suc (suc (suc (suc k)))) e = absurd-bool e
+short-schema : Every Short schema
+short-schema =
+    (tt, ((refl, omega arith), (tt, (tt, ((refl, omega arith), (tt, ((refl, omega arith), ((refl, omega arith), ((refl, omega arith), ((refl, omega arith), tt))))))))))
+
+known : (row : List Form) → Short row → (k : ℕ) → isUnknown (getD row k Unknown) ≡ false → (1 ≤ k) × (k ≤ 3)
+known [] s k e = absurd-bool e
+known (f ∷ row) s zero e = absurd-bool (ap isUnknown (sym (s .0)) ∙ e)
+known (f ∷ row) s (suc k) e = by-place (ltb k (length row)) refl
+  where
+    by-place : (t : Bool) → ltb k (length row) ≡ t → (1 ≤ suc k) × (suc k ≤ 3)
+    by-place true p = (omega arith, omega (arith, s .1, ltb-true k (length row) p))
+    by-place false p = absurd-bool (ap isUnknown (sym (List·getD-eq-default row Unknown {n = k} (ltb-false k (length row) p))) ∙ e)
+
+pub known-number : (m k : ℕ) → isUnknown (formIn m k) ≡ false → (1 ≤ k) × (k ≤ 3)
+unfolding formIn
+known-number m k e = known (getD schema m []) (row-at Short tt schema short-schema m) k e
+
+-- No message but a hello has lists.
+abbrev Listless : List Form → Type 0
+Listless [] = Unit {0}
+Listless (f ∷ row) = (isList f ≡ false) × Listless row
+
+no-list : (row : List Form) → Listless row → (k : ℕ) → isList (getD row k Unknown) ≡ false
+no-list [] l k = refl
+no-list (f ∷ row) l zero = l .0
+no-list (f ∷ row) l (suc k) = no-list row (l .1) k
+
+listless : Every Listless (drop 2 schema)
+listless =
+    (tt, (tt, ((refl, (refl, tt)), (tt, ((refl, (refl, tt)), ((refl, (refl, tt)), ((refl, (refl, (refl, tt))), ((refl, (refl, tt)), tt))))))))
+
+pub only-hello : (m k : ℕ) → (m ≡ 1 → ⊥) → isList (formIn m k) ≡ false
+unfolding formIn
+only-hello zero k h = refl
+only-hello (suc zero) k h = absurd (h refl)
+only-hello (suc (suc m)) k h = no-list (getD (drop 2 schema) m []) (row-at Listless tt (drop 2 schema) listless m) k

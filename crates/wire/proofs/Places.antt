@@ -115,7 +115,7 @@ module _ (message : List ℕ) (place number next : ℕ) (e : numberAt message pl
   within h = rw (e, le-ltb (length message) (next + number) (omega (arith, after-read .1)))
 
 -- A part that was found lies in the message, behind its length.
-abbrev BlockStands : (message : List ℕ) (place : ℕ) → Block → Type 0
+abbrev pub BlockStands : (message : List ℕ) (place : ℕ) → Block → Type 0
 BlockStands message place (block start size) = (place < start) × (start + size ≤ length message)
 BlockStands message place (faulty refusal) =
     place ≤ length message → (21 ≤ refusal) × (refusal ≤ 25) × (32 * place + refusal ≤ 32 * length message + 21)
