@@ -59,7 +59,7 @@ module _ (bytes : List ℕ) (place : ℕ) (fields : Fields) where
     verifiers = verifiers;
   }
 
-  pub bytes-read : (start size : ℕ) → blockAt bytes place ≡ block start size → Stepped Bytes bytes place fields 
+  pub bytes-read : (start size : ℕ) → blockAt bytes place ≡ block start size → Stepped Bytes bytes place fields
       (Next (holding start size (fields .bit) (fields .provers) (fields .verifiers)) (start + size))
   unfolding leftmost
   bytes-read start size e = λ provers verifiers. record {
@@ -68,7 +68,7 @@ module _ (bytes : List ℕ) (place : ℕ) (fields : Fields) where
     keeps = λ k. (refl, refl);
   }
 
-  pub bit-read : (bit next : ℕ) → bitAt bytes place ≡ value bit next → Stepped Bit bytes place fields 
+  pub bit-read : (bit next : ℕ) → bitAt bytes place ≡ value bit next → Stepped Bit bytes place fields
       (Next (holding (fields .place) (fields .size) bit (fields .provers) (fields .verifiers)) next)
   unfolding leftmost
   bit-read bit next e = λ provers verifiers. record {
@@ -113,7 +113,7 @@ module _ (bytes : List ℕ) (place : ℕ) (fields : Fields) where
           (Next (holding (fields .place) (fields .size) (fields .bit) count (fields .verifiers)) next) list verifiers
       provers-read = record {
         reads = λ number.
-          sym (read _ .1 ∙ ap (λ (l : Listed). readAs (stage (seenIn fields) (made number (fields .place) (fields .size) (fields .bit) (l .suites) (entries (fields .verifiers) verifiers)) (l .next))) (read place .0));
+            sym (read _ .1 ∙ ap (λ (l : Listed). readAs (stage (seenIn fields) (made number (fields .place) (fields .size) (fields .bit) (l .suites) (entries (fields .verifiers) verifiers)) (l .next))) (read place .0));
         tidies = λ t. (tidy, t .1);
         keeps = λ k. absurd-bool k;
       }
@@ -122,7 +122,7 @@ module _ (bytes : List ℕ) (place : ℕ) (fields : Fields) where
           (Next (holding (fields .place) (fields .size) (fields .bit) (fields .provers) count) next) provers list
       verifiers-read = record {
         reads = λ number.
-          sym (read _ .1 ∙ ap (λ (l : Listed). readAs (stage (seenIn fields) (made number (fields .place) (fields .size) (fields .bit) (entries (fields .provers) provers) (l .suites)) (l .next))) (read place .0));
+            sym (read _ .1 ∙ ap (λ (l : Listed). readAs (stage (seenIn fields) (made number (fields .place) (fields .size) (fields .bit) (entries (fields .provers) provers) (l .suites)) (l .next))) (read place .0));
         tidies = λ t. (t .0, tidy);
         keeps = λ k. absurd-bool k;
       }

@@ -85,6 +85,7 @@ module _ (message : List ℕ) where
       by-type next s true c = let e = number-ends next (s .1) in (omega (arith, s .0, e .0), e .1)
       by-type next s false true = let e = block-ends next (s .1) in (omega (arith, s .0, e .0), e .1)
       by-type next s false false = (h, omega arith)
+
       by-key : (n : Number) → Stands message place n → (place < afterKey message n) × (afterKey message n ≤ length message)
       by-key (value key next) s = by-type next s (eqb (wireType key) 0) (eqb (wireType key) 2)
       by-key (fault refusal) s = (h, omega arith)
@@ -116,6 +117,7 @@ module _ (message : List ℕ) where
       by-size : (number next : ℕ) (t : Bool) → place < next → Between place next (ofNumber place (cond t (fault 24) (value number next)))
       by-size number next true s = ((omega arith, omega arith, omega arith, omega arith), tt)
       by-size number next false s = tt
+
       by-number : (n : Number) → Stands message place n → Between place (afterNumber message n) (ofNumber place (asBit n))
       by-number (value number next) s = by-size number next (ltb 1 number) (s .0)
       by-number (fault refusal) s = let b = s h in ((omega arith, b .0, b .1, b .2), tt)
@@ -135,6 +137,7 @@ module _ (message : List ℕ) where
           widen next (afterContent (form (fieldNumber key)) message next) place (afterKey message (value key next)) (omega (arith, s .0))
           (omega (arith, content-end (form (fieldNumber key)) key next (or-left _ _ p) q))
           (ofContent (form (fieldNumber key)) message next) (content-between (form (fieldNumber key)) next (s .1))
+
       by-key : (n : Number) → Stands message place n → place < afterKey message n → Between place (afterKey message n) (ofField form former message place n)
       by-key (value key next) s e = by-test key next s e _ _ refl refl
       by-key (fault refusal) s e = let b = s (omega arith) in ((omega arith, b .0, b .1, b .2), tt)
@@ -151,6 +154,7 @@ module _ (message : List ℕ) where
       here : Between place (length message) (ofField form former message place (numberAt message place))
       here = widen place (afterKey message (numberAt message place)) place (length message) (omega arith) (field-ends place (omega arith) .1)
           (ofField form former message place (numberAt message place)) (field-between form former place (omega arith))
+
       by-place : (t : Bool) → ((f : FieldNumbers) (n : ℕ) → Between place (length message) (ofFields form f message (places after (suc place) n left))) →
           Between place (length message) (ofFields form former message (cond t (places after (suc place) next left) (place ∷ places after (suc place) (after place) left)))
       by-place true f = f former next

@@ -8,3 +8,6 @@ pub mod Numbers
 pub mod FieldSteps
 pub mod OneField
 pub mod Onward
+pub mod Carried
+pub mod Opening
+pub mod Whole

@@ -36,16 +36,17 @@ module _ (list : List ℕ) where
     where
       head : Between place (length list) (ofNumber place (numberAt list place))
       head = number-between place (omega arith)
+
       by-place : (t : Bool) (r : ℕ) →
           ((r n : ℕ) → Between place (length list) (ofEntries list r (places after (suc place) n left))) →
           Between place (length list) (ofEntries list r (cond t (places after (suc place) next left) (place ∷ places after (suc place) (after place) left)))
       by-place true r f = f r next
       by-place false zero f =
           let many : Between place (length list) (at place 25 ∷ ofEntries list zero (places after (suc place) (after place) left)) =
-            ((omega arith, omega arith, omega arith, omega arith), f zero (after place))
+          ((omega arith, omega arith, omega arith, omega arith), f zero (after place))
           in
           joined place (length list) (ofNumber place (numberAt list place)) (at place 25 ∷ ofEntries list zero (places after (suc place) (after place) left)) head many
-      by-place false (suc r) f = 
+      by-place false (suc r) f =
           joined place (length list) (ofNumber place (numberAt list place)) (ofEntries list r (places after (suc place) (after place) left)) head (f r (after place))
 
   abbrev after : ℕ → ℕ
@@ -68,6 +69,7 @@ module _ (list : List ℕ) where
       where
         b : (21 ≤ refusal) × (refusal ≤ 25) × (32 * place + refusal ≤ 32 * length list + 21)
         b = subst (Stands list place) e (stands list place) (omega arith)
+
         by-room : (r : ℕ) → judged (ofEntries list r (place ∷ [])) x ≡ refused refusal
         by-room zero = rw (e, not-before (at place refusal) (at place 25) (omega arith) (λ p. b .1))
         by-room (suc r) = rw (e)
@@ -79,8 +81,8 @@ module _ (list : List ℕ) where
           let within = subst (Stands list place) e (stands list place) in
           let here : Between place next (at place 25 ∷ []) = ((omega arith, omega arith, omega arith, omega (arith, within .0)), tt) in
           rw (entry-here, e)
-            (append-refused place next (length list) (at place 25 ∷ []) (ofEntries list 0 (entriesFrom list next)) here
-            (entries-between after 0 (length list - next) next next (omega (arith, within .1))) x x 25 refl)
+          (append-refused place next (length list) (at place 25 ∷ []) (ofEntries list 0 (entriesFrom list next)) here
+          (entries-between after 0 (length list - next) next next (omega (arith, within .1))) x x 25 refl)
 
       pub entry-taken : (room : ℕ) (suites : List ℕ) →
           judged (ofEntries list room (entriesFrom list next)) ((suites ++ (suite ∷ [])) ++ suitesFrom list next)

@@ -56,12 +56,12 @@ module _ (number : ℕ) (bytes : List ℕ) (place : ℕ) (fields : Fields) (prov
         let known = known-number number (fieldNumber key) (or-left _ _ u) in
         record {
           reads =
-            s .reads number
-            ∙ ap (λ (f : FieldNumbers). judged (ofContent form bytes next) (stage f (filled form bytes next (viewOf number fields provers verifiers)) (afterContent form bytes next)))
+              s .reads number
+              ∙ ap (λ (f : FieldNumbers). judged (ofContent form bytes next) (stage f (filled form bytes next (viewOf number fields provers verifiers)) (afterContent form bytes next)))
               (sym (one-marked (fieldNumber key) (known .0) (known .1) fields))
-            ∙ ap (λ (n : ℕ). judged (ofContent form bytes next) (stage (adding (fieldNumber key) (seenIn fields)) (filled form bytes next (viewOf number fields provers verifiers)) n))
+              ∙ ap (λ (n : ℕ). judged (ofContent form bytes next) (stage (adding (fieldNumber key) (seenIn fields)) (filled form bytes next (viewOf number fields provers verifiers)) n))
               (content-end bytes form key next (or-left _ _ u) w)
-            ∙ rw (e, announced place (ofContent form bytes next) isUnexpected isMistyped u w);
+              ∙ rw (e, announced place (ofContent form bytes next) isUnexpected isMistyped u w);
           tidies = λ t. s .tidies t;
           keeps = λ k. s .keeps (only-hello number (fieldNumber key) k);
         }

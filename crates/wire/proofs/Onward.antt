@@ -27,8 +27,8 @@ use Rattle.wire.proofs.Places.{at-end, one-more}
 pub record Onward (number : ℕ) (bytes : List ℕ) (start : ℕ) (provers₀ verifiers₀ provers verifiers : List ℕ) (fields : Fields) (at : ℕ) : Type 0 where
   pub within : at ≤ length bytes
   pub reads :
-    judged (ofFields (formIn number) (seenIn fields) bytes (fieldsFrom bytes at)) (withFields bytes (fieldsFrom bytes at) (viewOf number fields provers verifiers))
-    ≡ fieldsOf number bytes start
+      judged (ofFields (formIn number) (seenIn fields) bytes (fieldsFrom bytes at)) (withFields bytes (fieldsFrom bytes at) (viewOf number fields provers verifiers))
+      ≡ fieldsOf number bytes start
   pub tidies : number ≡ 1 → Tidy fields provers verifiers
   pub keeps : (number ≡ 1 → ⊥) → (provers ≡ provers₀) × (verifiers ≡ verifiers₀)
 
@@ -121,8 +121,8 @@ module _ (number : ℕ) (bytes : List ℕ) (start : ℕ) (provers₀ verifiers�
       goes-on = record {
         within = further .1;
         reads =
-          ap (λ (g : Stage). judged (ofFields (formIn number) (g .former) bytes (fieldsFrom bytes (g .next))) (withFields bytes (fieldsFrom bytes (g .next)) (g .message))) (sym (reached .0))
-          ∙ sym (reached .1) ∙ now;
+            ap (λ (g : Stage). judged (ofFields (formIn number) (g .former) bytes (fieldsFrom bytes (g .next))) (withFields bytes (fieldsFrom bytes (g .next)) (g .message))) (sym (reached .0))
+            ∙ sym (reached .1) ∙ now;
         tidies = λ k. subst (λ (q : Step). TidyStep q provers′ verifiers′) e (s .tidies (o .tidies k));
         keeps = λ k. (s .keeps k .0 ∙ o .keeps k .0, s .keeps k .1 ∙ o .keeps k .1);
       }

@@ -42,7 +42,7 @@ module _ (message : List ℕ) (after : ℕ → ℕ) (start : ℕ) where
       let e : length message - start ≡ suc (length message - suc start) = omega arith in
       let d : length message - suc start - (after start - suc start) ≡ length message - after start = omega arith in
       rw (e, le-ltb start start (omega arith), ← d)
-        (ap (λ (l : List ℕ). start ∷ l) (pass after (suc start) (after start) (length message - suc start) k))
+      (ap (λ (l : List ℕ). start ∷ l) (pass after (suc start) (after start) (length message - suc start) k))
 
 -- What is said is said by at least one byte, and by bytes that are there.
 abbrev Fits : ℕ → Said → Type 0
@@ -97,6 +97,7 @@ stands message place =
     by-size : (number width : ℕ) (t : Bool) → Fits (length message - place) (says number width) → Stands message place (cond t (fault 24) (value number (place + width)))
     by-size number width true f = λ h. (omega arith, omega arith, omega (arith, f .0, f .1))
     by-size number width false f = (omega (arith, f .0), omega (arith, f .0, f .1))
+
     by-said : (s : Said) → Fits (length message - place) s → There (length message - place) s → Stands message place (numberFrom place s)
     by-said (says number width) f u = by-size number width (ltb 4294967295 number) f
     by-said cut f u = λ h. (omega arith, omega arith, omega arith)
@@ -127,6 +128,7 @@ block-stands message place = by-number (numberAt message place) (stands message 
         BlockStands message place (cond t (faulty 21) (block start size))
     by-size size start true e s = λ h. (omega arith, omega arith, omega arith)
     by-size size start false e s = (s .0, ltb-false (length message) (start + size) e)
+
     by-number : (n : Number) → Stands message place n → BlockStands message place (bounded message n)
     by-number (value size start) s = by-size size start (ltb (length message) (start + size)) refl s
     by-number (fault refusal) s = s

@@ -1,7 +1,7 @@
 -- Request #101: what a message without a fault says. An absent field reads as empty or 0.
 use Prim.Native.Nat.{ℕ, zero, suc, _+_}
 use mathlib.Core.List.{List, [], _∷_, map}
-use lib.ListN.{take, getD}
+use lib.ListN.{take}
 use Rattle.wire.specs.Varint.{Number, value, fault, numberAt, bitAt}
 use Rattle.wire.specs.Layout.{Block, block, faulty, blockAt, fieldNumber, fieldsFrom, entriesFrom}
 use Rattle.wire.specs.Schema.{formIn}
@@ -77,21 +77,11 @@ unfoldable pub withFields : (bytes : List ℕ) → List ℕ → Message → Mess
 withFields bytes [] m = m
 withFields bytes (place ∷ places) m = withFields bytes places (withField bytes (numberAt bytes place) m)
 
--- The parts that a message carries. The others are empty or 0.
-abbrev pub carried : Message → Message
-carried m =
-    let none = empty (m .number) in
-    let bytes = made (m .number) (m .place) (m .size) 0 [] [] in
-    let hello = made 1 (m .place) (m .size) 0 (m .provers) (m .verifiers) in
-    let dataOf = made 8 (m .place) (m .size) (m .bit) [] [] in
-    let ack = made 9 0 0 (m .bit) [] [] in
-    getD (none ∷ hello ∷ none ∷ none ∷ bytes ∷ none ∷ bytes ∷ bytes ∷ dataOf ∷ ack ∷ []) (m .number) none
-
 -- The one message in an outer field.
 abbrev pub messageIn : (number : ℕ) (bytes : List ℕ) → Block → Message
 messageIn number bytes (block start size) =
     let message = take (start + size) bytes in
-    carried (withFields message (fieldsFrom message start) (empty number))
+    withFields message (fieldsFrom message start) (empty number)
 messageIn number bytes (faulty refusal) = empty number
 
 abbrev pub messageBy : List ℕ → Number → Message

@@ -4,13 +4,13 @@ use Prim.Native.Nat.{ℕ, suc, _+_, _-_, _*_, _≤_}
 use mathlib.Core.Bool.{Bool, true, false, cond, _&&_, _||_}
 use mathlib.Core.List.{List, [], _∷_}
 use lib.Dec.{eqb, ltb}
-use lib.ListN.{length, take}
+use lib.ListN.{length, take, getD}
 use Rattle.wire.specs.Varint.{Said, says, cut, endless, Number, value, fault, numberAt}
 use Rattle.wire.specs.Layout.{Block, block, faulty, blockAt, afterBlock, afterNumber, afterKey, fieldsFrom, entriesFrom}
-use Rattle.wire.specs.Schema.{formIn}
+use Rattle.wire.specs.Schema.{schema, formIn}
 use Rattle.wire.specs.Fault.{Reading, readAs, refused, judged}
 use Rattle.wire.specs.Faults.{FieldNumbers, noNumbers, adding, numbered, ofEntries, ofList, ofContent, ofField, ofFields, ofInner}
-use Rattle.wire.specs.Message.{Message, made, empty, carried, suitesFrom, suitesIn, filled, withField, withFields, readingOf}
+use Rattle.wire.specs.Message.{Message, made, empty, suitesFrom, suitesIn, filled, withField, withFields, readingOf}
 use Rattle.wire.specs.Numbers.{refusalNumber, readingIn, entries, padded}
 use Rattle.wire.specs.declared.Message as answer
 use Rattle.wire.specs.declared.Outer.{Outer}
@@ -196,7 +196,29 @@ pub record Lent (number : ℕ) (r : Inner) (provers verifiers provers′ verifie
   pub tidies : number ≡ 1 → TidyInner r provers′ verifiers′
   pub keeps : (number ≡ 1 → ⊥) → (provers′ ≡ provers) × (verifiers′ ≡ verifiers)
 
--- A message with the parts that it carries.
+-- Whether a row of the schema has a field of a form.
+abbrev pub formCode : Form → ℕ
+formCode Unknown = 0
+formCode Bytes = 1
+formCode Provers = 2
+formCode Verifiers = 3
+formCode Bit = 4
+
+abbrev pub contains : Form → List Form → Bool
+contains form [] = false
+contains form (f ∷ row) = eqb (formCode form) (formCode f) || contains form row
+
+-- The parts of a message for which the schema has a field.
+abbrev pub carried : Message → Message
+carried m =
+    let row = getD schema (m .number) [] in
+    made (m .number)
+    (cond (contains Bytes row) (m .place) 0)
+    (cond (contains Bytes row) (m .size) 0)
+    (cond (contains Bit row) (m .bit) 0)
+    (cond (contains Provers row) (m .provers) [])
+    (cond (contains Verifiers row) (m .verifiers) [])
+
 abbrev pub carriedIn : Reading Message → Reading Message
 carriedIn = mapped carried
 

@@ -4,8 +4,7 @@ use mathlib.Core.List.{List}
 use Prim.Native.Nat.{ℕ, _≤_}
 use native.Mathlib.Omega.{arith}
 use Rattle.wire.specs.Fault.{readAs}
-use Rattle.wire.specs.Message.{carried}
-use Rattle.wire.specs.Parts.{viewOf}
+use Rattle.wire.specs.Parts.{carried, viewOf}
 use Rattle.wire.specs.declared.fields.Fields.{Fields}
 use Rattle.wire.proofs.message_of.Statement.{statement}
 use Rattle.wire.proofs.message_of.Tie as tie

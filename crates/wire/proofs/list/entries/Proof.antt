@@ -42,9 +42,11 @@ returns-2 c =
     let l = c .before .before .before .before .before .before .loop in
     let s = c .before .before .before .before .before .before .before .before .args .bytes .now in
     let e = sym (c .before .before .before .before .number .ensures) ∙ ap numberOf (c .before .before .entry2 .given .1) in
-    let full : 16 - l .count ≡ 0 = omega (arith, c .if1 .taken) in
-    (sym (ap (λ (n : ℕ). judged (ofEntries s n (entriesFrom s (l .at))) (l .inv .0 ++ suitesFrom s (l .at))) full
-    ∙ one-too-many s (l .at) (c .before .before .before .before .before .loop-test .taken) _ _ e _) ∙ l .inv .4, tt)
+    let full : 16 - l .count ≡ 0 = omega (arith, c .if1 .taken) in (
+      sym (ap (λ (n : ℕ). judged (ofEntries s n (entriesFrom s (l .at))) (l .inv .0 ++ suitesFrom s (l .at))) full
+          ∙ one-too-many s (l .at) (c .before .before .before .before .before .loop-test .taken) _ _ e _) ∙ l .inv .4,
+      tt,
+    )
 
 -- There is room for the entry.
 room : (c : tie.Else1 Inv-loop μ-loop) → c .before .before .before .before .before .before .loop .count < 16
@@ -62,20 +64,21 @@ loop-again c =
     let s = c .before .before .before .before .before .before .before .before .args .bytes .now in
     let suite = c .before .before .entry2 .given .0 .0 in
     let e = sym (c .before .before .before .before .number .ensures) ∙ ap numberOf (c .before .before .entry2 .given .1) in
-    let more : 16 - l .count ≡ suc (16 - (l .count + 1)) = omega (arith, room c) in
-    (l .inv .0 ++ (suite ∷ []),
-    length-append (l .inv .0) (suite ∷ []) ∙ ap (λ (n : ℕ). n + 1) (l .inv .1),
-    omega (arith, room c),
-    rw (l .inv .3, ← l .inv .1) (one-stored (l .inv .0) suite (omega (arith, room c, l .inv .1))),
-    entry-taken s (l .at) (c .before .before .before .before .before .loop-test .taken) suite _ e (16 - (l .count + 1)) (l .inv .0)
-    ∙ ap (λ (n : ℕ). judged (ofEntries s n (entriesFrom s (l .at))) (l .inv .0 ++ suitesFrom s (l .at))) (sym more)
-    ∙ l .inv .4)
+    let more : 16 - l .count ≡ suc (16 - (l .count + 1)) = omega (arith, room c) in (
+      l .inv .0 ++ (suite ∷ []),
+      length-append (l .inv .0) (suite ∷ []) ∙ ap (λ (n : ℕ). n + 1) (l .inv .1),
+      omega (arith, room c),
+      rw (l .inv .3, ← l .inv .1) (one-stored (l .inv .0) suite (omega (arith, room c, l .inv .1))),
+      entry-taken s (l .at) (c .before .before .before .before .before .loop-test .taken) suite _ e (16 - (l .count + 1)) (l .inv .0)
+          ∙ ap (λ (n : ℕ). judged (ofEntries s n (entriesFrom s (l .at))) (l .inv .0 ++ suitesFrom s (l .at))) (sym more)
+          ∙ l .inv .4,
+    )
 
 returns-3 : tie.Need-returns-3 Inv-loop μ-loop
 returns-3 c =
     let l = c .before .loop in
     let all : entries (l .count) (l .entries) ≡ l .inv .0 =
-      rw (l .inv .3, ← l .inv .1) (padded-entries (l .inv .0) (omega (arith, l .inv .1, l .inv .2)))
+    rw (l .inv .3, ← l .inv .1) (padded-entries (l .inv .0) (omega (arith, l .inv .1, l .inv .2)))
     in
     (rw (all) (list-ends _ (l .at) (16 - l .count) (l .inv .0) (c .loop-test .left) ∙ l .inv .4), rw (all) (l .inv .3))
 

@@ -46,7 +46,7 @@ returns-2 : tie.Need-returns-2 Inv-loop μ-loop
 returns-2 c =
     let l = c .before .before .before .before .before .before .loop in
     rw (c .fitting .ensures, c .before .before .wide .ensures)
-      (last _ (l .low) (l .scale) (l .at) (c .before .before .before .before .if1 .left) (l .left) (omega arith) (omega (arith, c .before .if2 .taken, c .before .before .wide .ensures)) ∙ l .inv .4)
+    (last _ (l .low) (l .scale) (l .at) (c .before .before .before .before .if1 .left) (l .left) (omega arith) (omega (arith, c .before .if2 .taken, c .before .before .wide .ensures)) ∙ l .inv .4)
 
 -- A byte that announces more has seven bits besides.
 seven-bits : (c : tie.Else2 Inv-loop μ-loop) → c .before .wide .result - 128 < 128
@@ -70,12 +70,13 @@ mul-scale c =
 loop-again : tie.Need-loop-again Inv-loop μ-loop
 loop-again c =
     let l = c .before .before .before .before .before .loop in
-    let e = c .before .wide .ensures in
-    (omega arith,
-    omega arith,
-    heavier (l .left) (l .scale) (c .before .before .before .before .loop-test .taken) (l .inv .1) (l .inv .2),
-    omega (arith, product (l .scale) _ (seven-bits c)),
-    rw (e) (more _ (l .low) (l .scale) (l .at) (c .before .before .before .if1 .left) (l .left) (omega arith) (omega (arith, e, c .if2 .left))) ∙ l .inv .4)
+    let e = c .before .wide .ensures in (
+      omega arith,
+      omega arith,
+      heavier (l .left) (l .scale) (c .before .before .before .before .loop-test .taken) (l .inv .1) (l .inv .2),
+      omega (arith, product (l .scale) _ (seven-bits c)),
+      rw (e) (more _ (l .low) (l .scale) (l .at) (c .before .before .before .if1 .left) (l .left) (omega arith) (omega (arith, e, c .if2 .left))) ∙ l .inv .4,
+    )
 
 returns-3 : tie.Need-returns-3 Inv-loop μ-loop
 returns-3 c =

@@ -1,0 +1,165 @@
+-- The outer field: which message it holds, and where.
+use mathlib.Core.Path.{_≡_, refl, sym, ap, subst, _∙_}
+use mathlib.Core.Bool.{Bool, true, false, cond, _&&_, _||_}
+use mathlib.Core.List.{List, [], _∷_, _++_}
+use Prim.Native.Nat.{ℕ, _+_, _-_, _<_, _≤_}
+use native.Mathlib.Omega.{arith}
+use borrow.Author.Tests.{lt-ltb, le-ltb, ltb-true, leb-true}
+use lib.Dec.{leb, ltb}
+use lib.ListN.{length, take}
+use lib.Seq.{length-take-le}
+use Rattle.wire.specs.Varint.{Number, value, fault, numberAt}
+use Rattle.wire.specs.Layout.{Block, block, faulty, blockAt, afterKey, fieldNumber, wireType, fieldsFrom}
+use Rattle.wire.specs.Schema.{formIn, outerForm, isUnknown, wrongType}
+use Rattle.wire.specs.Fault.{Fault, at, given, leftmost, Reading, readAs, refused, judged}
+use Rattle.wire.specs.Faults.{noNumbers, ofFields, ofInner, ofOuter, faultsOf}
+use Rattle.wire.specs.Message.{Message, empty, withFields, messageOf, readingOf}
+use Rattle.wire.specs.Numbers.{refusalNumber}
+use Rattle.wire.specs.Parts.{Lent, Located, carried, carriedIn, fieldsOf, innerIn, innerOf, viewOf}
+use Rattle.wire.specs.declared.Refusal.{Refusal}
+use Rattle.wire.specs.declared.Refusal.the-variants.{UnexpectedField}
+use Rattle.wire.specs.declared.fields.Fields.{Fields}
+use Rattle.wire.specs.declared.fields.Inner.{Inner}
+use Rattle.wire.specs.declared.fields.Inner.the-variants as inner
+use Rattle.wire.specs.declared.schema.Form.{Form}
+use Rattle.wire.specs.declared.schema.Form.the-variants.{Unknown, Bytes}
+use Rattle.wire.proofs.Carried.{carries-all}
+use Rattle.wire.proofs.FieldSteps.{unexpected, wrongly-typed, announced, fields-between}
+use Rattle.wire.proofs.Numbers.{absurd-bool}
+use Rattle.wire.proofs.Order.{Between, append-refused, append-read, judged-mapped}
+use Rattle.wire.proofs.Places.{block-within}
+
+pub no-bytes : (bytes : List ℕ) → length bytes ≡ 0 → readingOf bytes ≡ refused 22
+unfolding readingOf faultsOf leftmost
+no-bytes [] e = refl
+no-bytes (b ∷ bytes) e = absurd (omega (arith, e))
+
+some-bytes : (bytes : List ℕ) → (length bytes ≡ 0 → ⊥) → faultsOf bytes ≡ ofOuter bytes (numberAt bytes 0)
+unfolding faultsOf
+some-bytes [] h = absurd (h refl)
+some-bytes (b ∷ bytes) h = refl
+
+or-false : (b : Bool) → (b || false) ≡ b
+or-false true = refl
+or-false false = refl
+
+module _ (bytes : List ℕ) (h : length bytes ≡ 0 → ⊥) where
+  pub outer-faulty : (refusal : ℕ) → numberAt bytes 0 ≡ fault refusal → readingOf bytes ≡ refused refusal
+  unfolding readingOf leftmost
+  outer-faulty refusal e = rw (some-bytes bytes h, e)
+
+  module _ (key next : ℕ) (e : numberAt bytes 0 ≡ value key next) where
+    abbrev form : Form
+    form = outerForm (fieldNumber key)
+
+    abbrev inside : List Fault
+    inside = ofInner (fieldNumber key) bytes next (blockAt bytes next)
+
+    pub outer-unexpected : isUnknown form ≡ true → readingOf bytes ≡ refused 22
+    unfolding readingOf
+    outer-unexpected u =
+        rw (some-bytes bytes h, e)
+        (unexpected _ 0 inside (isUnknown form || false) (wrongType form (wireType key)) (or-false (isUnknown form) ∙ u))
+
+    pub outer-mistyped : isUnknown form ≡ false → wrongType form (wireType key) ≡ true → readingOf bytes ≡ refused 23
+    unfolding readingOf
+    outer-mistyped u w =
+        rw (some-bytes bytes h, e)
+        (wrongly-typed _ 0 inside (isUnknown form || false) (wrongType form (wireType key)) (or-false (isUnknown form) ∙ u) w)
+
+    module _ (u : isUnknown form ≡ false) (w : wrongType form (wireType key) ≡ false) where
+      pub outer-cut : (refusal : ℕ) → blockAt bytes next ≡ faulty refusal → readingOf bytes ≡ refused refusal
+      unfolding readingOf leftmost
+      outer-cut refusal b =
+          rw (some-bytes bytes h, e, announced 0 inside (isUnknown form || false) (wrongType form (wireType key)) (or-false (isUnknown form) ∙ u) w, b)
+
+      known : (1 ≤ fieldNumber key) × (fieldNumber key ≤ 9)
+      known = by-test (leb 1 (fieldNumber key)) (leb (fieldNumber key) 9) refl refl u
+        where
+          by-test : (s t : Bool) → leb 1 (fieldNumber key) ≡ s → leb (fieldNumber key) 9 ≡ t → isUnknown (cond (s && t) Bytes Unknown) ≡ false → (1 ≤ fieldNumber key) × (fieldNumber key ≤ 9)
+          by-test true true p q k = (leb-true 1 (fieldNumber key) p, leb-true (fieldNumber key) 9 q)
+          by-test true false p q k = absurd-bool k
+          by-test false t p q k = absurd-bool k
+
+      pub outer-located : (start size : ℕ) → blockAt bytes next ≡ block start size → Located (fieldNumber key) start size bytes
+      unfolding readingOf innerOf
+      outer-located start size b =
+          let message = take (start + size) bytes in
+          record {
+            within = block-within bytes next start size b .1;
+            known = known;
+            reading =
+                rw (some-bytes bytes h, e, announced 0 inside (isUnknown form || false) (wrongType form (wireType key)) (or-false (isUnknown form) ∙ u) w, b)
+                (ap (λ (m : Message). judged (ofInner (fieldNumber key) bytes next (block start size)) m) (sym (carries-all (fieldNumber key) message (fieldsFrom message start)))
+                ∙ judged-mapped carried (ofInner (fieldNumber key) bytes next (block start size)) (withFields message (fieldsFrom message start) (empty (fieldNumber key))));
+          }
+
+-- A message in lent bytes, and what follows it.
+module _ (number : ℕ) (bytes : List ℕ) (start size : ℕ) (h : start + size ≤ length bytes) where
+  abbrev message : List ℕ
+  message = take (start + size) bytes
+
+  abbrev inFields : List Fault
+  inFields = ofFields (formIn number) noNumbers message (fieldsFrom message start)
+
+  fields-stand : Between start (start + size) inFields
+  fields-stand =
+      let n : length message ≡ start + size = length-take-le (start + size) bytes h in
+      subst (λ (e : ℕ). Between start e inFields) n
+      (fields-between message (formIn number) (λ place. afterKey message (numberAt message place)) (length message - start) start start noNumbers (omega (arith, n)))
+
+  abbrev following : List Fault
+  following = given (ltb (start + size) (length bytes)) (at (start + size) 22)
+
+  following-stands : Between (start + size) (length bytes) following
+  following-stands = by-test (ltb (start + size) (length bytes)) refl
+    where
+      by-test : (t : Bool) → ltb (start + size) (length bytes) ≡ t → Between (start + size) (length bytes) (given t (at (start + size) 22))
+      by-test true e = let l = ltb-true (start + size) (length bytes) e in ((omega arith, omega arith, omega arith, omega (arith, l)), tt)
+      by-test false e = tt
+
+  abbrev whole : Message
+  whole = withFields message (fieldsFrom message start) (empty number)
+
+  inner-refused : (refusal : ℕ) → refused refusal ≡ fieldsOf number message start → refused refusal ≡ innerOf number bytes start size
+  unfolding fieldsOf innerOf
+  inner-refused refusal e =
+      sym (append-refused start (start + size) (length bytes) inFields following fields-stand following-stands whole whole refusal (sym e))
+
+  module _ (m : Message) (e : readAs m ≡ fieldsOf number message start) where
+    read : (whole ≡ m) × (judged (inFields ++ following) whole ≡ judged following whole)
+    unfolding fieldsOf
+    read = append-read start (start + size) (length bytes) inFields following fields-stand following-stands whole m whole (sym e)
+
+    inner-trailing : start + size < length bytes → refused 22 ≡ innerOf number bytes start size
+    unfolding innerOf leftmost
+    inner-trailing end = sym (read .1 ∙ rw (lt-ltb (start + size) (length bytes) end))
+
+    inner-read : length bytes ≤ start + size → readAs m ≡ innerOf number bytes start size
+    unfolding innerOf leftmost
+    inner-read end = sym (read .1 ∙ rw (le-ltb (start + size) (length bytes) end) (ap readAs (read .0)))
+
+  -- The same of what `read_fields` answers, with the two lists.
+  module _ (provers verifiers provers′ verifiers′ : List ℕ) (r : Inner)
+      (e : innerIn number r provers′ verifiers′ ≡ fieldsOf number message start) (l : Lent number r provers verifiers provers′ verifiers′) where
+    pub stays-refused : (refusal : Refusal) → r ≡ inner.Fault refusal →
+        (refused (refusalNumber refusal) ≡ innerOf number bytes start size) × Lent number (inner.Fault refusal) provers verifiers provers′ verifiers′
+    stays-refused refusal k = (
+      inner-refused (refusalNumber refusal) (ap (λ (q : Inner). innerIn number q provers′ verifiers′) (sym k) ∙ e),
+      record { tidies = λ f. tt; keeps = l .keeps },
+    )
+
+    module _ (fields : Fields) (k : r ≡ inner.Read fields) where
+      pub then-trailing : start + size < length bytes →
+          (refused 22 ≡ innerOf number bytes start size) × Lent number (inner.Fault UnexpectedField) provers verifiers provers′ verifiers′
+      then-trailing end = (
+        inner-trailing (viewOf number fields provers′ verifiers′) (ap (λ (q : Inner). innerIn number q provers′ verifiers′) (sym k) ∙ e) end,
+        record { tidies = λ f. tt; keeps = l .keeps },
+      )
+
+      pub then-read : length bytes ≤ start + size →
+          (readAs (viewOf number fields provers′ verifiers′) ≡ innerOf number bytes start size) × Lent number (inner.Read fields) provers verifiers provers′ verifiers′
+      then-read end = (
+        inner-read (viewOf number fields provers′ verifiers′) (ap (λ (q : Inner). innerIn number q provers′ verifiers′) (sym k) ∙ e) end,
+        subst (λ (q : Inner). Lent number q provers verifiers provers′ verifiers′) k l,
+      )

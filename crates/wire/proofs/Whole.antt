@@ -1,0 +1,57 @@
+-- A hello and the other messages, with the two lists.
+use mathlib.Core.Path.{_≡_, refl, sym, ap, subst, _∙_}
+use mathlib.Core.List.{List}
+use Prim.Native.Nat.{ℕ, _≤_}
+use native.Mathlib.Omega.{arith}
+use borrow.Author.Tests.{ne-eqb}
+use Rattle.wire.specs.Fault.{Reading, readAs, refused}
+use Rattle.wire.specs.Message.{Message}
+use Rattle.wire.specs.Numbers.{refusalNumber, readingIn, entries, padded, proversAfter, verifiersAfter}
+use Rattle.wire.specs.Parts.{Lent, MessageAs, TidyInner, carried, carriedIn, helloOf, innerIn, innerOf, viewOf}
+use Rattle.wire.specs.declared.Message as answer
+use Rattle.wire.specs.declared.Message.the-variants.{Refused}
+use Rattle.wire.specs.declared.Refusal.{Refusal}
+use Rattle.wire.specs.declared.fields.Fields.{Fields}
+use Rattle.wire.specs.declared.fields.Inner.{Inner}
+use Rattle.wire.specs.declared.fields.Inner.the-variants as inner
+
+-- What `read` promises of its answer and of the two lists, before and after.
+abbrev pub Answers : answer.Message → (provers verifiers provers′ verifiers′ : List ℕ) → Reading Message → Type 0
+Answers r provers verifiers provers′ verifiers′ reading =
+    (readingIn r provers′ verifiers′ ≡ reading) × ((provers′ ≡ proversAfter reading provers) × (verifiers′ ≡ verifiersAfter reading verifiers))
+
+module _ (number : ℕ) (bytes : List ℕ) (start size : ℕ) (provers verifiers provers′ verifiers′ : List ℕ) (r : Inner)
+    (e : innerIn number r provers′ verifiers′ ≡ innerOf number bytes start size) (l : Lent number r provers verifiers provers′ verifiers′) where
+  -- Nothing was read, and nothing is written.
+  module _ (refusal : Refusal) (k : r ≡ inner.Fault refusal) where
+    refusal-is : carriedIn (innerOf number bytes start size) ≡ refused (refusalNumber refusal)
+    refusal-is = ap carriedIn (sym e ∙ ap (λ (q : Inner). innerIn number q provers′ verifiers′) k)
+
+    pub whole-refused : (p v p′ v′ : List ℕ) → p′ ≡ p → v′ ≡ v → Answers (Refused refusal) p v p′ v′ (carriedIn (innerOf number bytes start size))
+    whole-refused p v p′ v′ f g = (sym refusal-is, (rw (refusal-is) f, rw (refusal-is) g))
+
+  module _ (fields : Fields) (k : r ≡ inner.Read fields) where
+    reading-is : carriedIn (innerOf number bytes start size) ≡ readAs (carried (viewOf number fields provers′ verifiers′))
+    reading-is = ap carriedIn (sym e ∙ ap (λ (q : Inner). innerIn number q provers′ verifiers′) k)
+
+    -- A message other than a hello leaves both lists.
+    pub message-read : (number ≡ 1 → ⊥) → (r′ : answer.Message) → MessageAs number fields r′ →
+        Answers r′ provers verifiers provers′ verifiers′ (carriedIn (innerOf number bytes start size))
+    message-read n r′ a = (
+      a provers′ verifiers′ ∙ sym reading-is,
+      (rw (reading-is, ne-eqb number 1 n) (l .keeps n .0), rw (reading-is, ne-eqb number 1 n) (l .keeps n .1)),
+    )
+
+-- A hello writes both.
+pub hello-read : (bytes : List ℕ) (start size : ℕ) (provers₀ verifiers₀ provers verifiers provers′ verifiers′ : List ℕ) (r : Inner) →
+    innerIn 1 r provers′ verifiers′ ≡ innerOf 1 bytes start size → Lent 1 r provers verifiers provers′ verifiers′ → (fields : Fields) → r ≡ inner.Read fields →
+    (readAs (carried (viewOf 1 fields provers′ verifiers′)) ≡ helloOf bytes start size)
+    × ((provers′ ≡ proversAfter (helloOf bytes start size) provers₀) × (verifiers′ ≡ verifiersAfter (helloOf bytes start size) verifiers₀))
+hello-read bytes start size provers₀ verifiers₀ provers verifiers provers′ verifiers′ r e l fields k =
+    let is = reading-is 1 bytes start size provers verifiers provers′ verifiers′ r e l fields k in
+    let t = subst (λ (q : Inner). TidyInner q provers′ verifiers′) k (l .tidies refl) in
+    (sym is, (rw (is) (t .0), rw (is) (t .1)))
+
+pub answers-of : (r : answer.Message) (provers verifiers provers′ verifiers′ : List ℕ) (reading reading′ : Reading Message) →
+    reading ≡ reading′ → Answers r provers verifiers provers′ verifiers′ reading′ → Answers r provers verifiers provers′ verifiers′ reading
+answers-of r provers verifiers provers′ verifiers′ reading reading′ e a = subst (λ (q : Reading Message). Answers r provers verifiers provers′ verifiers′ q) (sym e) a
