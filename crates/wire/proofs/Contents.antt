@@ -11,7 +11,7 @@ use Rattle.wire.specs.Fault.{at, leftmost, readAs, refused, judged}
 use Rattle.wire.specs.Faults.{ofContent, ofList}
 use Rattle.wire.specs.Message.{made, filled, suitesIn}
 use Rattle.wire.specs.Numbers.{refusalNumber, entries, padded}
-use Rattle.wire.specs.Parts.{ContentStep, Stepped, Kept, Listed, Tidy, TidyStep, afterContent, isList, listed, packedAt, packedOf, seenIn, stage, stepIn, viewOf}
+use Rattle.wire.specs.Parts.{ContentStep, Holds, Stepped, Kept, Listed, Tidy, TidyStep, afterContent, isList, listed, packedAt, packedOf, seenIn, stage, stepIn, viewOf}
 use Rattle.wire.specs.declared.Refusal.{Refusal}
 use Rattle.wire.specs.declared.fields.Fields.{Fields}
 use Rattle.wire.specs.declared.fields.Step.{Step}
@@ -106,7 +106,7 @@ module _ (bytes : List ℕ) (place : ℕ) (fields : Fields) where
       unfolding packedAt
       read y = same-read (ofList bytes place (blockAt bytes place)) _ _ y (sym e ∙ ap (λ (p : Packed). packedOf p list) h)
 
-      tidy : list ≡ padded (entries count list)
+      tidy : Holds count list
       tidy = subst (λ (p : Packed). Kept p before list) h kept
 
       pub provers-read : ContentStep Provers bytes place fields provers verifiers

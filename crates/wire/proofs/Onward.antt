@@ -64,7 +64,7 @@ unfolding fieldsOf
 begins number bytes start provers verifiers h c = record {
   within = h;
   reads = rw (none-seen, no-entries provers, no-entries verifiers);
-  tidies = λ e. (c e .0 ∙ ap padded (sym (no-entries provers)), c e .1 ∙ ap padded (sym (no-entries verifiers)));
+  tidies = λ e. ((omega arith, c e .0 ∙ ap padded (sym (no-entries provers))), (omega arith, c e .1 ∙ ap padded (sym (no-entries verifiers))));
   keeps = λ k. (refl, refl);
 }
 

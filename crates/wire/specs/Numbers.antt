@@ -1,6 +1,6 @@
 -- Document 01, "The forms we expect": the number and values of request #101 for each case of the enums that the code answers with;
 -- what the lent lists hold afterwards, and the bytes of a span.
-use Prim.Native.Nat.{ℕ, _+_, _-_}
+use Prim.Native.Nat.{ℕ, _+_, _-_, _≤_}
 use mathlib.Core.Bool.{cond}
 use mathlib.Core.List.{List, [], _∷_, _++_}
 use lib.Dec.{eqb, ltb}
@@ -38,6 +38,19 @@ readingIn (RaVerifier payload) provers verifiers = readAs (made 7 (payload .plac
 readingIn (Data payload bit) provers verifiers = readAs (made 8 (payload .place) (payload .size) bit [] [])
 readingIn (Ack bit) provers verifiers = readAs (made 9 0 0 bit [] [])
 readingIn (Refused refusal) provers verifiers = refused (refusalNumber refusal)
+
+-- A hello's counts are at most 16.
+abbrev pub CountsFit : Message → Type 0
+CountsFit (Hello token p v) = (p ≤ 16) × (v ≤ 16)
+CountsFit Close = Unit {0}
+CountsFit DatExpired = Unit {0}
+CountsFit (Dat token) = Unit {0}
+CountsFit ReRa = Unit {0}
+CountsFit (RaProver payload) = Unit {0}
+CountsFit (RaVerifier payload) = Unit {0}
+CountsFit (Data payload bit) = Unit {0}
+CountsFit (Ack bit) = Unit {0}
+CountsFit (Refused refusal) = Unit {0}
 
 -- A list of suites in sixteen entries, the others 0.
 abbrev pub padded : List ℕ → List ℕ

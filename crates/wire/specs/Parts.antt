@@ -63,9 +63,12 @@ countedIn (counted.Fault refusal) list = refused (refusalNumber refusal)
 abbrev pub listOf : list.List → Reading (List ℕ)
 listOf read = countedIn (read .counted) (read .entries)
 
--- The entries after those that were counted are 0.
+-- A list of sixteen entries holds so many suites, and then zeros.
+abbrev pub Holds : ℕ → List ℕ → Type 0
+Holds count list = (count ≤ 16) × (list ≡ padded (entries count list))
+
 abbrev pub Padded : Counted → List ℕ → Type 0
-Padded (counted.Count count) list = list ≡ padded (entries count list)
+Padded (counted.Count count) list = Holds count list
 Padded (counted.Fault refusal) list = Unit {0}
 
 -- The suites of a packed list at a place, and the place after it.
@@ -87,7 +90,7 @@ packedOf (packed.Fault refusal) suites = refused (refusalNumber refusal)
 
 -- A list is written if it shows no fault.
 abbrev pub Kept : Packed → (before after : List ℕ) → Type 0
-Kept (packed.Suites count next) before after = after ≡ padded (entries count after)
+Kept (packed.Suites count next) before after = Holds count after
 Kept (packed.Fault refusal) before after = after ≡ before
 
 -- The numbers of the fields that have been read.
@@ -125,10 +128,10 @@ abbrev pub stepIn : ℕ → Step → (provers verifiers : List ℕ) → Reading 
 stepIn number (step.Next fields next) provers verifiers = readAs (stage (seenIn fields) (viewOf number fields provers verifiers) next)
 stepIn number (step.Fault refusal) provers verifiers = refused (refusalNumber refusal)
 
--- Both lists hold what was counted, and then zeros.
+-- Both lists hold the suites that were counted.
 abbrev pub Tidy : Fields → (provers verifiers : List ℕ) → Type 0
 Tidy fields provers verifiers =
-    (provers ≡ padded (entries (fields .provers) provers)) × (verifiers ≡ padded (entries (fields .verifiers) verifiers))
+    Holds (fields .provers) provers × Holds (fields .verifiers) verifiers
 
 abbrev pub TidyStep : Step → (provers verifiers : List ℕ) → Type 0
 TidyStep (step.Next fields next) provers verifiers = Tidy fields provers verifiers

@@ -3,7 +3,7 @@ ghost use mathlib.Core.Path.{_≡_};
 ghost use Prim.Native.Nat.{_+_, _≤_};
 ghost use lib.ListN.{length};
 ghost use Rattle.wire.specs.Message.{readingOf};
-ghost use Rattle.wire.specs.Numbers.{partOf, proversAfter, readingIn, refusalNumber, verifiersAfter};
+ghost use Rattle.wire.specs.Numbers.{CountsFit, partOf, proversAfter, readingIn, refusalNumber, verifiersAfter};
 ghost use Rattle.wire.specs.Parts.{Cleared, Lent, MessageAs, Opened, helloOf, innerIn, innerOf};
 
 mod block;
@@ -133,6 +133,7 @@ fn hello(
     ensures { λ r. ⌜ readingIn r (now (provers .exit)) (now (verifiers .exit)) ≡ helloOf (now (bytes .entry)) start size ⌝ }
     ensures { λ _. ⌜ now (provers .exit) ≡ proversAfter (helloOf (now (bytes .entry)) start size) (now (provers .entry)) ⌝ }
     ensures { λ _. ⌜ now (verifiers .exit) ≡ verifiersAfter (helloOf (now (bytes .entry)) start size) (now (verifiers .entry)) ⌝ }
+    ensures { λ r. ⌜ CountsFit r ⌝ }
 {
     let mut peer_provers = [0; 16];
     let mut peer_verifiers = [0; 16];
@@ -165,6 +166,7 @@ fn hello(
 fn message_of(message: u32, fields: Fields) -> Message
     requires { ⌜ (2 ≤ message) × (message ≤ 9) ⌝ }
     ensures { λ r. ⌜ MessageAs message fields r ⌝ }
+    ensures { λ r. ⌜ CountsFit r ⌝ }
 {
     let bytes = Span {
         place: fields.place,
@@ -191,6 +193,7 @@ pub fn read(bytes: &[u8], provers: &mut [u32; 16], verifiers: &mut [u32; 16]) ->
     ensures { λ r. ⌜ readingIn r (now (provers .exit)) (now (verifiers .exit)) ≡ readingOf (now (bytes .entry)) ⌝ }
     ensures { λ _. ⌜ now (provers .exit) ≡ proversAfter (readingOf (now (bytes .entry))) (now (provers .entry)) ⌝ }
     ensures { λ _. ⌜ now (verifiers .exit) ≡ verifiersAfter (readingOf (now (bytes .entry))) (now (verifiers .entry)) ⌝ }
+    ensures { λ r. ⌜ CountsFit r ⌝ }
 {
     let found = outer_field(bytes);
     match found {

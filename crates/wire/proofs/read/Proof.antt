@@ -33,7 +33,7 @@ returns-2 : tie.Need-returns-2
 returns-2 c =
     let a = c .before .before .before .before .before .args in
     let e = subst (λ (q : Outer). Opened q (a .bytes .now)) (c .before .found .given .1) (c .before .before .before .«outer-field» .ensures) in
-    (sym e, (rw (e), rw (e)))
+    (sym e, (rw (e), (rw (e), tt)))
 
 returns-3 : tie.Need-returns-3
 returns-3 c =
@@ -50,7 +50,7 @@ returns-4 c =
     let l = subst (λ (q : Outer). Opened q (c .before .before .before .before .before .before .before .before .before .before .before .before .before .args .bytes .now)) (c .before .before .before .before .before .before .before .before .before .found2 .given .1) (c .before .before .before .before .before .before .before .before .before .before .before .«outer-field» .ensures) in
     let f = c .before .before .before .before .inner in
     answers-of (c .«message-of» .result) (a .provers .now) (a .verifiers .now) _ _ _ _ (l .reading)
-    (message-read _ (a .bytes .now) _ _ _ _ _ _ _ (f .ensures .0) (f .ensures .1) _ (c .before .before .read2 .given .1) (c .before .before .before .before .before .before .before .if1 .left) (c .«message-of» .result) (c .«message-of» .ensures))
+    (message-read _ (a .bytes .now) _ _ _ _ _ _ _ (f .ensures .0) (f .ensures .1) _ (c .before .before .read2 .given .1) (c .before .before .before .before .before .before .before .if1 .left) (c .«message-of» .result) (c .«message-of» .ensures .0) (c .«message-of» .ensures .1))
 
 pub read-spec : {M : Type 1} → statement M
 read-spec =

@@ -80,7 +80,7 @@ returns-3 c =
     let all : entries (l .count) (l .entries) ≡ l .inv .0 =
     rw (l .inv .3, ← l .inv .1) (padded-entries (l .inv .0) (omega (arith, l .inv .1, l .inv .2)))
     in
-    (rw (all) (list-ends _ (l .at) (16 - l .count) (l .inv .0) (c .loop-test .left) ∙ l .inv .4), rw (all) (l .inv .3))
+    (rw (all) (list-ends _ (l .at) (16 - l .count) (l .inv .0) (c .loop-test .left) ∙ l .inv .4), (l .inv .2, rw (all) (l .inv .3)))
 
 pub entries-spec : {M : Type 1} → statement M
 entries-spec =
