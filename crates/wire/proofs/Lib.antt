@@ -11,3 +11,5 @@ pub mod Onward
 pub mod Carried
 pub mod Opening
 pub mod Whole
+pub mod Flattened
+pub mod Lengths

@@ -55,7 +55,7 @@ none-seen = λ i n. none-of (eqb n 1) (eqb n 2) (eqb n 3) i
     none-of : (a b c : Bool) → ((a && false) || (b && false) || (c && false)) ≡ false
     none-of a b c = rw (and-false a, and-false b, and-false c)
 
-no-entries : (list : List ℕ) → entries 0 list ≡ []
+pub no-entries : (list : List ℕ) → entries 0 list ≡ []
 no-entries list = rw (zero-sub (length list))
 
 pub begins : (number : ℕ) (bytes : List ℕ) (start : ℕ) (provers verifiers : List ℕ) → start ≤ length bytes → Cleared number provers verifiers →

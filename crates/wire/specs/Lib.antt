@@ -6,3 +6,4 @@ pub mod Faults
 pub mod Message
 pub mod Numbers
 pub mod Parts
+pub mod Flat

@@ -8,6 +8,7 @@ ghost use Rattle.wire.specs.Parts.{Cleared, Lent, MessageAs, Opened, hel
 
 mod block;
 mod fields;
+mod flat;
 mod list;
 pub mod refusals;
 pub mod schema;
@@ -18,6 +19,8 @@ use crate::block::block_at;
 use crate::fields::Fields;
 use crate::fields::Inner;
 use crate::fields::read_fields;
+pub use crate::flat::FlatMessage;
+pub use crate::flat::flatten;
 use crate::schema::is_unknown;
 use crate::schema::outer_form;
 use crate::schema::wrong_type;

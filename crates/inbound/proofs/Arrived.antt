@@ -1,0 +1,73 @@
+-- A message that was read, as numbers, and the call that it is.
+use mathlib.Core.Path.{_≡_, refl, sym, ap, _∙_}
+use mathlib.Core.Bool.{cond}
+use mathlib.Core.List.{List, [], _∷_}
+use Prim.Native.Nat.{ℕ, zero, suc, _<_, _≤_}
+use native.Mathlib.Omega.{arith}
+use lib.Dec.{eqb}
+use lib.ListN.{length, getD, take}
+use borrow.Author.Tests.{eq-eqb, ne-eqb, le-ltb}
+use Rattle.connection.specs.Also.{resultAlso}
+use Rattle.event.specs.Call.{callOf}
+use Rattle.protocol.specs.Step.{Result, resultWith, unchanged}
+use Rattle.protocol.specs.declared.Answer.the-variants.{Refused}
+use Rattle.record.specs.declared.Connection.{Connection}
+use Rattle.wire.proofs.Flattened.{flat-reading}
+use Rattle.wire.proofs.Lengths.{all-there}
+use Rattle.wire.specs.Fault.{Reading, readAs, refused}
+use Rattle.wire.specs.Flat.{flatOf, readingBy}
+use Rattle.wire.specs.Message.{made, readingOf}
+use Rattle.wire.specs.Message as spec
+use Rattle.wire.specs.Numbers.{entries, partOf, readingIn}
+use Rattle.wire.specs.declared.Message.{Message}
+use Rattle.wire.specs.declared.flat.FlatMessage.{FlatMessage}
+use Rattle.inbound.specs.Arrival.{alsoOf, codeOf, eventOf, firstOf}
+use Rattle.inbound.specs.Received.{Given, placeIn, received, receivedAs}
+
+-- A number that is no message's has no event's code.
+pub no-event : (n : ℕ) → (n ≡ 1 → ⊥) → (n ≡ 2 → ⊥) → (n ≡ 3 → ⊥) → (n ≡ 4 → ⊥) → (n ≡ 5 → ⊥) → (n ≡ 6 → ⊥) → (n ≡ 7 → ⊥) → (n ≡ 8 → ⊥) → (n ≡ 9 → ⊥) → 24 ≡ codeOf n
+no-event zero a b c d e f g h i = refl
+no-event (suc zero) a b c d e f g h i = absurd (a refl)
+no-event (suc (suc zero)) a b c d e f g h i = absurd (b refl)
+no-event (suc (suc (suc zero))) a b c d e f g h i = absurd (c refl)
+no-event (suc (suc (suc (suc zero)))) a b c d e f g h i = absurd (d refl)
+no-event (suc (suc (suc (suc (suc zero))))) a b c d e f g h i = absurd (e refl)
+no-event (suc (suc (suc (suc (suc (suc zero)))))) a b c d e f g h i = absurd (f refl)
+no-event (suc (suc (suc (suc (suc (suc (suc zero))))))) a b c d e f g h i = absurd (g refl)
+no-event (suc (suc (suc (suc (suc (suc (suc (suc zero)))))))) a b c d e f g h i = absurd (h refl)
+no-event (suc (suc (suc (suc (suc (suc (suc (suc (suc zero))))))))) a b c d e f g h i = absurd (i refl)
+no-event (suc (suc (suc (suc (suc (suc (suc (suc (suc (suc n)))))))))) a b c d e f g h i = refl
+
+-- The first entries of a list of sixteen.
+pub first-entries : (count : ℕ) (list : List ℕ) → length list ≡ 16 → count ≤ 16 → firstOf count list ≡ entries count list
+first-entries count list e h = rw (all-there count list e h, le-ltb (length list) count (omega (arith, e)))
+
+module _ (bytes provers verifiers : List ℕ) (message : Message) (m : FlatMessage) (f : m ≡ flatOf message) (e : readingIn message provers verifiers ≡ readingOf bytes) where
+  is-reading : readingOf bytes ≡ readingBy m provers verifiers
+  is-reading = sym e ∙ sym (flat-reading message provers verifiers) ∙ ap (λ (x : FlatMessage). readingBy x provers verifiers) (sym f)
+
+  module _ (some : 0 < m .refusal) where
+    is-refused : readingOf bytes ≡ refused (m .refusal)
+    is-refused = is-reading ∙ rw (ne-eqb (m .refusal) 0 (λ z. omega (arith, z, some)))
+
+    pub arrived-refused : (connection : Connection) (g : Given) (cache : List ℕ) → received connection bytes g cache ≡ resultWith (unchanged (Refused (m .refusal)) connection) [] cache
+    unfolding received
+    arrived-refused connection g cache = ap (λ (r : Reading spec.Message). receivedAs connection r bytes g cache) is-refused
+
+    pub refused-place : 0 ≡ placeIn (readingOf bytes)
+    refused-place = sym (ap placeIn is-refused)
+
+  module _ (none : m .refusal ≤ 0) where
+    is-read : readingOf bytes ≡ readAs (made (m .number) (m .place) (m .size) (m .bit) (entries (m .provers) provers) (entries (m .verifiers) verifiers))
+    is-read = is-reading ∙ rw (eq-eqb (m .refusal) 0 (omega arith))
+
+    pub arrived-read : (connection : Connection) (g : Given) (cache : List ℕ) →
+        received connection bytes g cache
+        ≡ resultAlso (alsoOf (m .number) (g .tokenRefusal)) connection
+        (callOf (eventOf (m .number) (m .bit) (g .token)) (partOf bytes (record { place = m .place; size = m .size })) (g .ourVerifiers) (entries (m .provers) provers) (entries (m .verifiers) verifiers) (g .ourProvers))
+        cache
+    unfolding received
+    arrived-read connection g cache = ap (λ (r : Reading spec.Message). receivedAs connection r bytes g cache) is-read
+
+    pub read-place : m .place ≡ placeIn (readingOf bytes)
+    read-place = sym (ap placeIn is-read)

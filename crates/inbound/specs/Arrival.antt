@@ -1,0 +1,49 @@
+-- Request #101, "Joined to the step": the event that a message is.
+use Prim.Native.Nat.{ℕ}
+use mathlib.Core.Bool.{_||_, cond}
+use mathlib.Core.List.{List, [], _∷_}
+use lib.Dec.{eqb, ltb}
+use lib.ListN.{length, getD, take}
+use Rattle.event.specs.declared.Event.{Event}
+use Rattle.inbound.specs.declared.Token.{Token}
+
+-- The codes of the messages 1 to 9. No other number is a message's, and 24 no event's code.
+abbrev pub codeOf : ℕ → ℕ
+codeOf number =
+    getD
+    (24
+    ∷ 11  -- HELLO
+    ∷ 12  -- CLOSE
+    ∷ 14  -- DAT_EXPIRED
+    ∷ 13  -- DAT
+    ∷ 17  -- RE_RA
+    ∷ 15  -- RA_PROVER
+    ∷ 16  -- RA_VERIFIER
+    ∷ 18  -- DATA
+    ∷ 19  -- ACK
+    ∷ [])
+    number 24
+
+-- An event with a bit, and with what the host found of the token. A message carries no tag.
+abbrev pub eventWith : (code bit : ℕ) → Token → Event
+eventWith code bit token = record {
+  code = code;
+  tag = 0;
+  timer = 0;
+  bit = bit;
+  verdict = token .verdict;
+  expiry = token .expiry;
+  now = token .now;
+}
+
+-- The event that a message is.
+abbrev pub eventOf : (number bit : ℕ) → Token → Event
+eventOf number bit token = eventWith (codeOf number) bit token
+
+-- HELLO and DAT carry a token: a refusal of the host's interface concerns these.
+abbrev pub alsoOf : (number tokenRefusal : ℕ) → ℕ
+alsoOf number tokenRefusal = cond (eqb number 1 || eqb number 4) tokenRefusal 0
+
+-- The first entries of a list; none where it has not so many.
+abbrev pub firstOf : (count : ℕ) → List ℕ → List ℕ
+firstOf count list = cond (ltb (length list) count) [] (take count list)

@@ -1,0 +1,145 @@
+// A message that arrived, given to the step. The host hands over the bytes, what it found of the token, and its own lists.
+ghost use mathlib.Core.Path.{_≡_};
+ghost use Rattle.flat.specs.Flat.{recordIn, slotsOf};
+ghost use Rattle.wire.specs.Message.{readingOf};
+ghost use Rattle.inbound.specs.Arrival.{alsoOf, codeOf, eventOf, eventWith, firstOf};
+ghost use Rattle.inbound.specs.Received.{Given, given, placeIn, received};
+use connection::Answer;
+use connection::Event;
+use connection::codes;
+use connection::refusals;
+use connection::step_flat;
+use flat::slots_of;
+use moves::NO_ACTIONS;
+use wire::Span;
+use wire::flatten;
+use wire::part;
+use wire::read;
+use wire::schema;
+
+// A code that no event has: a step with it is refused.
+const NO_EVENT: u32 = 24;
+
+// What the host found of a token: its verdict on the signature, when it expires and the time now, in seconds.
+pub struct Token {
+    pub verdict: bool,
+    pub expiry: i64,
+    pub now: i64,
+}
+
+// The answer, and where the token or payload lies in the bytes.
+pub struct Receipt {
+    pub answer: Answer,
+    pub place: usize,
+}
+
+// The code of the event that a message is, by the message's number.
+pub fn code_of(number: u32) -> u32
+    ensures { λ r. ⌜ r ≡ codeOf number ⌝ }
+{
+    match number {
+        schema::HELLO => codes::SC_HELLO,
+        schema::CLOSE => codes::SC_CLOSE,
+        schema::DAT_EXPIRED => codes::SC_DAT_EXPIRED,
+        schema::DAT => codes::SC_DAT,
+        schema::RE_RA => codes::SC_RE_RA,
+        schema::RA_PROVER => codes::SC_RA_PROVER,
+        schema::RA_VERIFIER => codes::SC_RA_VERIFIER,
+        schema::DATA => codes::SC_DATA,
+        schema::ACK => codes::SC_ACK,
+        _ => NO_EVENT,
+    }
+}
+
+// The event that a message is: its bit, and what the host found of the token.
+pub fn event_of(number: u32, bit: u32, token: Token) -> Event
+    ensures { λ r. ⌜ r ≡ eventOf number bit token ⌝ }
+{
+    event_with(code_of(number), bit, token)
+}
+
+fn event_with(code: u32, bit: u32, token: Token) -> Event
+    ensures { λ r. ⌜ r ≡ eventWith code bit token ⌝ }
+{
+    Event {
+        code,
+        tag: 0,
+        timer: 0,
+        bit,
+        verdict: token.verdict,
+        expiry: token.expiry,
+        now: token.now,
+    }
+}
+
+// A refusal of the host's interface concerns the messages that carry a token.
+fn also_of(number: u32, token_refusal: u32) -> u32
+    ensures { λ r. ⌜ r ≡ alsoOf number «token_refusal» ⌝ }
+{
+    if (number == schema::HELLO) | (number == schema::DAT) {
+        return token_refusal;
+    }
+    refusals::NONE
+}
+
+// The first entries of a list; none where it has not so many.
+fn first(list: &[u32], count: usize) -> &[u32]
+    ensures { λ r. ⌜ now r ≡ firstOf count (now (list .entry)) ⌝ }
+{
+    if count > list.len() {
+        return &list[..0];
+    }
+    &list[..count]
+}
+
+// Reads a message and steps with the event that it is. Bytes that are refused change nothing. `token_refusal` is a refusal
+// of the host's interface, 0 for none: it is given for a message with a token where the step refuses nothing.
+pub fn receive(
+    numbers: &mut [u32; 12],
+    bytes: &[u8],
+    token: Token,
+    token_refusal: u32,
+    our_verifiers: &[u32],
+    our_provers: &[u32],
+    cache: &mut [u8],
+    slots: &mut [u32; 16],
+) -> Receipt
+    ensures { λ r. ⌜ r .answer ≡ received (recordIn (now (numbers .entry))) (now (bytes .entry)) (given token «token_refusal» (now («our_verifiers» .entry)) (now («our_provers» .entry))) (now (cache .entry)) .outcome .answer ⌝ }
+    ensures { λ _. ⌜ recordIn (now (numbers .exit)) ≡ received (recordIn (now (numbers .entry))) (now (bytes .entry)) (given token «token_refusal» (now («our_verifiers» .entry)) (now («our_provers» .entry))) (now (cache .entry)) .outcome .connection ⌝ }
+    ensures { λ _. ⌜ now (slots .exit) ≡ slotsOf (received (recordIn (now (numbers .entry))) (now (bytes .entry)) (given token «token_refusal» (now («our_verifiers» .entry)) (now («our_provers» .entry))) (now (cache .entry)) .outcome .actions) ⌝ }
+    ensures { λ _. ⌜ now (cache .exit) ≡ received (recordIn (now (numbers .entry))) (now (bytes .entry)) (given token «token_refusal» (now («our_verifiers» .entry)) (now («our_provers» .entry))) (now (cache .entry)) .cache ⌝ }
+    ensures { λ r. ⌜ r .place ≡ placeIn (readingOf (now (bytes .entry))) ⌝ }
+{
+    let mut provers = [0; 16];
+    let mut verifiers = [0; 16];
+    let message = flatten(read(bytes, &mut provers, &mut verifiers));
+    let refusal = message.refusal;
+    if refusal > refusals::NONE {
+        *slots = slots_of(NO_ACTIONS);
+        return Receipt {
+            answer: Answer::Refused(refusal),
+            place: 0,
+        };
+    }
+    let place = message.place;
+    let payload = part(
+        bytes,
+        Span {
+            place,
+            size: message.size,
+        },
+    );
+    let answer = step_flat(
+        numbers,
+        also_of(message.number, token_refusal),
+        event_of(message.number, message.bit, token),
+        payload,
+        our_verifiers,
+        first(&provers, message.provers),
+        first(&verifiers, message.verifiers),
+        our_provers,
+        cache,
+        slots,
+    );
+    Receipt { answer, place }
+}
