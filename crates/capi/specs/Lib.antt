@@ -4,3 +4,4 @@ pub mod Verdict
 pub mod Part
 pub mod Returned
 pub mod Host
+pub mod Arrived

@@ -1,16 +1,21 @@
-// The connection step, the token's time and the suite choice for hosts in C and Rust.
+// The connection step, the reader of messages, the token's time and the suite choice for hosts in C and Rust.
 //
 // Record, actions and choice are lent as numbers in a fixed order; the header `menhotrac.h` names them. The host owns
 // all memory, and the library keeps none of it.
 ghost use mathlib.Core.Path.{_≡_};
 ghost use Rattle.capi.specs.Choice.{chosenOf};
+ghost use Rattle.capi.specs.Arrived.{arrived, payloadIn};
 ghost use Rattle.capi.specs.Part.{Within, partIn};
 ghost use Rattle.capi.specs.Returned.{returned};
-ghost use Rattle.capi.specs.Verdict.{eventOf, refusedAs, wrongVerdict};
+ghost use Rattle.capi.specs.Verdict.{eventOf, refusedAs, tokenOf, verdictRefusal, wrongVerdict};
+ghost use Rattle.inbound.specs.Received.{placeIn};
 ghost use Rattle.flat.specs.Flat.{numbersOf, recordIn};
 ghost use Rattle.record.specs.WellFormed as spec;
 ghost use Rattle.suites.specs.Choice.{choice};
 ghost use Rattle.token.specs.SecondsLeft.{secondsLeft};
+ghost use Rattle.wire.specs.Flat.{flatIn};
+ghost use Rattle.wire.specs.Message.{readingOf};
+ghost use Rattle.wire.specs.Numbers.{proversAfter, verifiersAfter};
 
 mod answer;
 mod choice;
@@ -24,8 +29,13 @@ use connection::fresh;
 use connection::refusals;
 use connection::step_flat;
 use flat::numbers_of;
+use inbound::Token;
+use inbound::receive;
 use suites::choose;
 use token::seconds_left;
+use wire::FlatMessage;
+use wire::flatten;
+use wire::read;
 
 const YES: u32 = 1;
 
@@ -73,6 +83,41 @@ fn refused_as(flat: FlatEvent) -> u32
     } else {
         refusals::NONE
     }
+}
+
+// What a host found of a token: `Token` with the verdict as a number.
+#[repr(C)]
+pub struct FlatToken {
+    pub verdict: u32,
+    pub expiry: i64,
+    pub now: i64,
+}
+
+// The answer to a message that arrived, and where its token or payload lies in the bytes.
+#[repr(C)]
+pub struct FlatReceipt {
+    pub answer: u32,
+    pub place: usize,
+}
+
+fn token_of(flat: FlatToken) -> Token
+    ensures { λ r. ⌜ r ≡ tokenOf flat ⌝ }
+{
+    Token {
+        verdict: flat.verdict == YES,
+        expiry: flat.expiry,
+        now: flat.now,
+    }
+}
+
+// The interface's own refusal of a message with a token, 0 for none.
+fn verdict_refusal(flat: FlatToken) -> u32
+    ensures { λ r. ⌜ r ≡ verdictRefusal flat ⌝ }
+{
+    if flat.verdict > YES {
+        return WRONG_VERDICT;
+    }
+    refusals::NONE
 }
 
 // The record of a new connection.
@@ -142,4 +187,55 @@ pub extern "C" fn menhotrac_step(
         actions,
     );
     number_of(answer)
+}
+
+// Reads one message. A hello's suites are written to the two lists, followed by zeros.
+#[no_mangle]
+pub extern "C" fn menhotrac_read(
+    bytes: &[u8],
+    provers: &mut [u32; 16],
+    verifiers: &mut [u32; 16],
+) -> FlatMessage
+    ensures { λ r. ⌜ r ≡ flatIn (readingOf (now (bytes .entry))) ⌝ }
+    ensures { λ _. ⌜ now (provers .exit) ≡ proversAfter (readingOf (now (bytes .entry))) (now (provers .entry)) ⌝ }
+    ensures { λ _. ⌜ now (verifiers .exit) ≡ verifiersAfter (readingOf (now (bytes .entry))) (now (verifiers .entry)) ⌝ }
+{
+    flatten(read(bytes, provers, verifiers))
+}
+
+// Reads one message and steps with the event that it is. The payload part of the event lies in the bytes, from the place
+// that the receipt names.
+#[no_mangle]
+pub extern "C" fn menhotrac_receive(
+    connection: &mut [u32; 12],
+    bytes: &[u8],
+    token: FlatToken,
+    cache: &mut [u8],
+    actions: &mut [u32; 16],
+    our_verifiers: &[u32],
+    our_provers: &[u32],
+) -> FlatReceipt
+    ensures { λ r. ⌜ r .answer ≡ arrived (now (connection .entry)) (now (bytes .entry)) token (now (cache .entry)) (now («our_verifiers» .entry)) (now («our_provers» .entry)) .answer ⌝ }
+    ensures { λ _. ⌜ recordIn (now (connection .exit)) ≡ arrived (now (connection .entry)) (now (bytes .entry)) token (now (cache .entry)) (now («our_verifiers» .entry)) (now («our_provers» .entry)) .connection ⌝ }
+    ensures { λ _. ⌜ now (actions .exit) ≡ arrived (now (connection .entry)) (now (bytes .entry)) token (now (cache .entry)) (now («our_verifiers» .entry)) (now («our_provers» .entry)) .actions ⌝ }
+    ensures { λ _. ⌜ now (cache .exit) ≡ arrived (now (connection .entry)) (now (bytes .entry)) token (now (cache .entry)) (now («our_verifiers» .entry)) (now («our_provers» .entry)) .cache ⌝ }
+    ensures { λ r. ⌜ r .place ≡ placeIn (readingOf (now (bytes .entry))) ⌝ }
+    ensures { λ _. ⌜ Within (now (actions .exit)) (payloadIn (now (bytes .entry))) (now (cache .exit)) ⌝ }
+    ensures { λ _. ⌜ partIn (now (actions .exit)) (payloadIn (now (bytes .entry))) (now (cache .exit)) ≡ arrived (now (connection .entry)) (now (bytes .entry)) token (now (cache .entry)) (now («our_verifiers» .entry)) (now («our_provers» .entry)) .part ⌝ }
+{
+    let receipt = receive(
+        connection,
+        bytes,
+        token_of(token),
+        verdict_refusal(token),
+        our_verifiers,
+        our_provers,
+        cache,
+        actions,
+    );
+    let answer = receipt.answer;
+    FlatReceipt {
+        answer: number_of(answer),
+        place: receipt.place,
+    }
 }

@@ -12,10 +12,10 @@ use Rattle.event.specs.Call.{callOf}
 use Rattle.protocol.specs.Step.{Result, resultWith, unchanged}
 use Rattle.protocol.specs.declared.Answer.the-variants.{Refused}
 use Rattle.record.specs.declared.Connection.{Connection}
-use Rattle.wire.proofs.Flattened.{flat-reading}
+use Rattle.wire.proofs.Flattened.{flat-reading, readingBy}
 use Rattle.wire.proofs.Lengths.{all-there}
 use Rattle.wire.specs.Fault.{Reading, readAs, refused}
-use Rattle.wire.specs.Flat.{flatOf, readingBy}
+use Rattle.wire.specs.Flat.{flatOf}
 use Rattle.wire.specs.Message.{made, readingOf}
 use Rattle.wire.specs.Message as spec
 use Rattle.wire.specs.Numbers.{entries, partOf, readingIn}

@@ -10,7 +10,7 @@ use Rattle.wire.specs.Numbers.{CountsFit, entries, padded, proversAfter,
 use Rattle.wire.specs.declared.Message.{Message}
 use Rattle.wire.specs.declared.Message.the-variants.{Hello, Close, DatExpired, Dat, ReRa, RaProver, RaVerifier, Data, Ack, Refused}
 
-length-entries : (count : ℕ) (list : List ℕ) → length (entries count list) ≡ count
+pub length-entries : (count : ℕ) (list : List ℕ) → length (entries count list) ≡ count
 length-entries count list = rw (length-append, length-take, length-replicate) (omega arith)
 
 holds-16 : (count : ℕ) (list : List ℕ) → count ≤ 16 → list ≡ padded (entries count list) → length list ≡ 16

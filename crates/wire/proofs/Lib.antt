@@ -13,3 +13,4 @@ pub mod Opening
 pub mod Whole
 pub mod Flattened
 pub mod Lengths
+pub mod Laws

@@ -7,3 +7,4 @@ pub mod Message
 pub mod Numbers
 pub mod Parts
 pub mod Flat
+pub mod Laws

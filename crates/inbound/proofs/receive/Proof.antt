@@ -63,25 +63,32 @@ returns-2 c =
     let e = arrived-read bytes _ _ (r .result) (m .result) (m .ensures) (r .ensures .0) none (recordIn (now (a .numbers))) g (now (a .cache)) in
     let count = flat-counts (r .result) (r .ensures .1 .1 .1) in
     let p : firstOf (m .result .provers) (r .last .1 .0) ≡ entries (m .result .provers) (r .last .1 .0) =
-      first-entries (m .result .provers) _ (provers-16 (r .last .1 .0) (r .last .1 .1 .0) zeros refl (r .result) (r .ensures .1 .1 .1) (rw (r .ensures .0) (r .ensures .1 .0)))
-      (rw (m .ensures) (count .0))
+    first-entries (m .result .provers) _ (provers-16 (r .last .1 .0) (r .last .1 .1 .0) zeros refl (r .result) (r .ensures .1 .1 .1) (rw (r .ensures .0) (r .ensures .1 .0)))
+    (rw (m .ensures) (count .0))
     in
     let v : firstOf (m .result .verifiers) (r .last .1 .1 .0) ≡ entries (m .result .verifiers) (r .last .1 .1 .0) =
-      first-entries (m .result .verifiers) _ (verifiers-16 (r .last .1 .0) (r .last .1 .1 .0) zeros refl (r .result) (r .ensures .1 .1 .1) (rw (r .ensures .0) (r .ensures .1 .1 .0)))
-      (rw (m .ensures) (count .1))
+    first-entries (m .result .verifiers) _ (verifiers-16 (r .last .1 .0) (r .last .1 .1 .0) zeros refl (r .result) (r .ensures .1 .1 .1) (rw (r .ensures .0) (r .ensures .1 .1 .0)))
+    (rw (m .ensures) (count .1))
     in
     let call : ℕ → Event → (payload peerProvers peerVerifiers : List ℕ) → Result =
-      λ also event payload peerProvers peerVerifiers. resultAlso also (recordIn (now (a .numbers))) (callOf event payload (now (a .«our-verifiers»)) peerProvers peerVerifiers (now (a .«our-provers»))) (now (a .cache))
+    λ also event payload peerProvers peerVerifiers. resultAlso also (recordIn (now (a .numbers))) (callOf event payload (now (a .«our-verifiers»)) peerProvers peerVerifiers (now (a .«our-provers»))) (now (a .cache))
     in
     let same : call (c .before .before .before .before .before .before .before .before .before .before .«also-of» .result) (c .before .before .before .before .before .before .before .before .before .«event-of» .result) (now (c .before .before .before .before .before .before .before .before .before .before .before .before .part .result)) (now (c .before .before .before .before .before .before .before .first .result)) (now (c .before .before .before .before .before .first2 .result)) ≡ received (recordIn (now (a .numbers))) bytes g (now (a .cache)) =
-      (λ i. call (c .before .before .before .before .before .before .before .before .before .before .«also-of» .ensures i) (c .before .before .before .before .before .before .before .before .before .«event-of» .ensures i) (c .before .before .before .before .before .before .before .before .before .before .before .before .part .ensures i) ((c .before .before .before .before .before .before .before .first .ensures ∙ p) i) ((c .before .before .before .before .before .first2 .ensures ∙ v) i)) ∙ sym e
+    (λ i. call (c .before .before .before .before .before .before .before .before .before .before .«also-of» .ensures i) (c .before .before .before .before .before .before .before .before .before .«event-of» .ensures i) (c .before .before .before .before .before .before .before .before .before .before .before .before .part .ensures i) ((c .before .before .before .before .before .before .before .first .ensures ∙ p) i) ((c .before .before .before .before .before .first2 .ensures ∙ v) i)) ∙ sym e
     in
-    let s = c .before .before .«step-flat» .ensures in
-    (s .0 ∙ ap (λ (x : Result). x .outcome .answer) same,
-    (s .1 .0 ∙ ap (λ (x : Result). x .outcome .connection) same,
-    (s .1 .1 .0 ∙ ap (λ (x : Result). slotsOf (x .outcome .actions)) same,
-    (s .1 .1 .1 ∙ ap (λ (x : Result). x .cache) same,
-    read-place bytes _ _ (r .result) (m .result) (m .ensures) (r .ensures .0) none))))
+    let s = c .before .before .«step-flat» .ensures in (
+      s .0 ∙ ap (λ (x : Result). x .outcome .answer) same,
+      (
+        s .1 .0 ∙ ap (λ (x : Result). x .outcome .connection) same,
+        (
+          s .1 .1 .0 ∙ ap (λ (x : Result). slotsOf (x .outcome .actions)) same,
+          (
+            s .1 .1 .1 ∙ ap (λ (x : Result). x .cache) same,
+            read-place bytes _ _ (r .result) (m .result) (m .ensures) (r .ensures .0) none,
+          ),
+        ),
+      ),
+    )
 
 pub receive-spec : {M : Type 1} → statement M
 receive-spec =

@@ -1,0 +1,28 @@
+-- The laws that pin the definition: a refusal is given by the first fault, a message shows none, and its part lies in the bytes.
+use mathlib.Core.Path.{_≡_}
+use mathlib.Core.Bool.{false}
+use mathlib.Core.List.{List, []}
+use mathlib.Core.List.{List·Memᴰ}
+use Prim.Native.Nat.{ℕ, _+_, _≤_}
+use lib.ListN.{length}
+use Rattle.wire.specs.Fault.{Fault, before, Reading, readAs, refused}
+use Rattle.wire.specs.Faults.{faultsOf}
+use Rattle.wire.specs.Message.{Message, readingOf}
+
+-- A fault is one of the list, and none comes before it.
+pub record FirstIn (faults : List Fault) (f : Fault) : Type 0 where
+  pub member : List·Memᴰ f faults
+  pub first : (g : Fault) → List·Memᴰ g faults → before g f ≡ false
+
+-- A refusal's number is that of the leftmost fault.
+abbrev pub RefusedByFirst : Type 0
+RefusedByFirst =
+    (bytes : List ℕ) (number : ℕ) → readingOf bytes ≡ refused number → (f : Fault) × ((f .number ≡ number) × FirstIn (faultsOf bytes) f)
+
+-- A message has no fault.
+abbrev pub MessageFaultless : Type 0
+MessageFaultless = (bytes : List ℕ) (m : Message) → readingOf bytes ≡ readAs m → faultsOf bytes ≡ []
+
+-- Its token or payload lies in the bytes.
+abbrev pub PartLies : Type 0
+PartLies = (bytes : List ℕ) (m : Message) → readingOf bytes ≡ readAs m → m .place + m .size ≤ length bytes
