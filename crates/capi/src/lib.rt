@@ -100,21 +100,21 @@ pub struct FlatReceipt {
     pub place: usize,
 }
 
-fn token_of(flat: FlatToken) -> Token
-    ensures { λ r. ⌜ r ≡ tokenOf flat ⌝ }
+fn token_of(found: FlatToken) -> Token
+    ensures { λ r. ⌜ r ≡ tokenOf found ⌝ }
 {
     Token {
-        verdict: flat.verdict == YES,
-        expiry: flat.expiry,
-        now: flat.now,
+        verdict: found.verdict == YES,
+        expiry: found.expiry,
+        now: found.now,
     }
 }
 
 // The interface's own refusal of a message with a token, 0 for none.
-fn verdict_refusal(flat: FlatToken) -> u32
-    ensures { λ r. ⌜ r ≡ verdictRefusal flat ⌝ }
+fn verdict_refusal(found: FlatToken) -> u32
+    ensures { λ r. ⌜ r ≡ verdictRefusal found ⌝ }
 {
-    if flat.verdict > YES {
+    if found.verdict > YES {
         return WRONG_VERDICT;
     }
     refusals::NONE

@@ -3,6 +3,7 @@ mod attestation_cases;
 mod call;
 mod data_cases;
 mod events;
+mod message_cases;
 mod opening_cases;
 mod print;
 mod records;
@@ -14,6 +15,7 @@ mod token_step_cases;
 fn main() {
     token_cases::run();
     suite_cases::run();
+    message_cases::run();
     call::columns();
     opening_cases::run();
     attestation_cases::run();

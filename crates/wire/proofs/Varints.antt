@@ -77,3 +77,10 @@ pub tenth-zero : (bytes : List ℕ) (low at : ℕ) → at < length bytes → get
 tenth-zero bytes low at h k =
     let z : getD bytes at 0 ≡ 0 = omega arith in
     rw (← last bytes low 9223372036854775808 at h 1 (omega arith) (omega arith), z, mul-zero, add-zero)
+
+-- A number that one byte says.
+pub one-byte : (bytes : List ℕ) (place byte : ℕ) → place < length bytes → byte ≡ getD bytes place 0 → byte < 128 → value byte (place + 1) ≡ numberAt bytes place
+unfolding numberAt said
+one-byte bytes place byte h e k =
+    let l : getD bytes place 0 < 128 = omega (arith, e, k) in
+    rw (e, drop-cons bytes place 0 h, lt-ltb (getD bytes place 0) 128 l, le-ltb 4294967295 (getD bytes place 0) (omega arith))

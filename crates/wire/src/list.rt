@@ -5,7 +5,7 @@ use crate::Refusal;
 use crate::block::Block;
 use crate::block::block_at;
 use crate::varint::Varint;
-use crate::varint::number;
+use crate::varint::long_number;
 
 const MAX_ENTRIES: usize = 16;
 
@@ -36,7 +36,7 @@ fn entries(bytes: &[u8], start: usize) -> List
     let mut count = 0;
     let mut at = start;
     while at < bytes.len() {
-        let entry = number(bytes, at);
+        let entry = long_number(bytes, at);
         match entry {
             Varint::Fault(refusal) => {
                 return List {

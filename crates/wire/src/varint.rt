@@ -49,8 +49,21 @@ fn tenth(bytes: &[u8], at: usize, low: u64) -> Varint
     fitting(low, at + 1)
 }
 
-// The number at a place. Nine bytes say less than 2^63, so that only the tenth can leave 64 bits.
+// The number at a place. Most are said by one byte.
 pub fn number(bytes: &[u8], place: usize) -> Varint
+    ensures { λ r. ⌜ numberOf r ≡ numberAt (now (bytes .entry)) place ⌝ }
+{
+    if place < bytes.len() {
+        let byte = wide(bytes[place]);
+        if byte < MORE {
+            return Varint::Number(byte as u32, place + 1);
+        }
+    }
+    long_number(bytes, place)
+}
+
+// A number of any length. Nine bytes say less than 2^63, so that only the tenth can leave 64 bits.
+pub fn long_number(bytes: &[u8], place: usize) -> Varint
     ensures { λ r. ⌜ numberOf r ≡ numberAt (now (bytes .entry)) place ⌝ }
 {
     let mut low: u64 = 0;

@@ -34,14 +34,14 @@ loop-holds c = ([], refl, omega arith, refl, refl)
 returns : tie.Need-returns Inv-loop μ-loop
 returns c =
     let l = c .before .before .before .before .before .loop in
-    let e = sym (c .before .before .before .number .ensures) ∙ ap numberOf (c .before .entry .given .1) in
+    let e = sym (c .before .before .before .«long-number» .ensures) ∙ ap numberOf (c .before .entry .given .1) in
     (sym (entry-faulty _ (l .at) (c .before .before .before .before .loop-test .taken) _ (16 - l .count) _ e) ∙ l .inv .4, tt)
 
 returns-2 : tie.Need-returns-2 Inv-loop μ-loop
 returns-2 c =
     let l = c .before .before .before .before .before .before .loop in
     let s = c .before .before .before .before .before .before .before .before .args .bytes .now in
-    let e = sym (c .before .before .before .before .number .ensures) ∙ ap numberOf (c .before .before .entry2 .given .1) in
+    let e = sym (c .before .before .before .before .«long-number» .ensures) ∙ ap numberOf (c .before .before .entry2 .given .1) in
     let full : 16 - l .count ≡ 0 = omega (arith, c .if1 .taken) in (
       sym (ap (λ (n : ℕ). judged (ofEntries s n (entriesFrom s (l .at))) (l .inv .0 ++ suitesFrom s (l .at))) full
           ∙ one-too-many s (l .at) (c .before .before .before .before .before .loop-test .taken) _ _ e _) ∙ l .inv .4,
@@ -55,7 +55,7 @@ room c = let l = c .before .before .before .before .before .before .loop in omeg
 loop-less : tie.Need-loop-less Inv-loop μ-loop
 loop-less c =
     let l = c .before .before .before .before .before .before .loop in
-    let e = sym (c .before .before .before .before .number .ensures) ∙ ap numberOf (c .before .before .entry2 .given .1) in
+    let e = sym (c .before .before .before .before .«long-number» .ensures) ∙ ap numberOf (c .before .before .entry2 .given .1) in
     omega (arith, after-read _ (l .at) _ _ e .0, c .before .before .before .before .before .loop-test .taken)
 
 loop-again : tie.Need-loop-again Inv-loop μ-loop
@@ -63,7 +63,7 @@ loop-again c =
     let l = c .before .before .before .before .before .before .loop in
     let s = c .before .before .before .before .before .before .before .before .args .bytes .now in
     let suite = c .before .before .entry2 .given .0 .0 in
-    let e = sym (c .before .before .before .before .number .ensures) ∙ ap numberOf (c .before .before .entry2 .given .1) in
+    let e = sym (c .before .before .before .before .«long-number» .ensures) ∙ ap numberOf (c .before .before .entry2 .given .1) in
     let more : 16 - l .count ≡ suc (16 - (l .count + 1)) = omega (arith, room c) in (
       l .inv .0 ++ (suite ∷ []),
       length-append (l .inv .0) (suite ∷ []) ∙ ap (λ (n : ℕ). n + 1) (l .inv .1),
