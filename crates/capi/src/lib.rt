@@ -34,8 +34,7 @@ use inbound::receive;
 use suites::choose;
 use token::seconds_left;
 use wire::FlatMessage;
-use wire::flatten;
-use wire::read;
+use wire::read_flat;
 
 const YES: u32 = 1;
 
@@ -200,7 +199,7 @@ pub extern "C" fn menhotrac_read(
     ensures { λ _. ⌜ now (provers .exit) ≡ proversAfter (readingOf (now (bytes .entry))) (now (provers .entry)) ⌝ }
     ensures { λ _. ⌜ now (verifiers .exit) ≡ verifiersAfter (readingOf (now (bytes .entry))) (now (verifiers .entry)) ⌝ }
 {
-    flatten(read(bytes, provers, verifiers))
+    read_flat(bytes, provers, verifiers)
 }
 
 // Reads one message and steps with the event that it is. The payload part of the event lies in the bytes, from the place

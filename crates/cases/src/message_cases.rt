@@ -1,7 +1,6 @@
 // Messages read from bytes.
 use crate::print;
-use wire::flatten;
-use wire::read;
+use wire::read_flat;
 
 pub(crate) fn run() {
     print::heading(b"messages: refusal, number; place, size, bit; prover suites; verifier suites");
@@ -194,7 +193,7 @@ fn first_faults() {
 fn show(label: &[u8], bytes: &[u8]) {
     let mut provers = [0; 16];
     let mut verifiers = [0; 16];
-    let message = flatten(read(bytes, &mut provers, &mut verifiers));
+    let message = read_flat(bytes, &mut provers, &mut verifiers);
     print::label(label);
     print::number(message.refusal as u64);
     print::number(message.number as u64);

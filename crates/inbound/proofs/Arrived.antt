@@ -12,14 +12,12 @@ use Rattle.event.specs.Call.{callOf}
 use Rattle.protocol.specs.Step.{Result, resultWith, unchanged}
 use Rattle.protocol.specs.declared.Answer.the-variants.{Refused}
 use Rattle.record.specs.declared.Connection.{Connection}
-use Rattle.wire.proofs.Flattened.{flat-reading, readingBy}
 use Rattle.wire.proofs.Lengths.{all-there}
 use Rattle.wire.specs.Fault.{Reading, readAs, refused}
-use Rattle.wire.specs.Flat.{flatOf}
+use Rattle.wire.specs.Flat.{readingBy}
 use Rattle.wire.specs.Message.{made, readingOf}
 use Rattle.wire.specs.Message as spec
-use Rattle.wire.specs.Numbers.{entries, partOf, readingIn}
-use Rattle.wire.specs.declared.Message.{Message}
+use Rattle.wire.specs.Numbers.{entries, partOf}
 use Rattle.wire.specs.declared.flat.FlatMessage.{FlatMessage}
 use Rattle.inbound.specs.Arrival.{alsoOf, codeOf, eventOf, firstOf}
 use Rattle.inbound.specs.Received.{Given, placeIn, received, receivedAs}
@@ -42,13 +40,10 @@ no-event (suc (suc (suc (suc (suc (suc (suc (suc (suc (suc n)))))))))) a b c d e
 pub first-entries : (count : ℕ) (list : List ℕ) → length list ≡ 16 → count ≤ 16 → firstOf count list ≡ entries count list
 first-entries count list e h = rw (all-there count list e h, le-ltb (length list) count (omega (arith, e)))
 
-module _ (bytes provers verifiers : List ℕ) (message : Message) (m : FlatMessage) (f : m ≡ flatOf message) (e : readingIn message provers verifiers ≡ readingOf bytes) where
-  is-reading : readingOf bytes ≡ readingBy m provers verifiers
-  is-reading = sym e ∙ sym (flat-reading message provers verifiers) ∙ ap (λ (x : FlatMessage). readingBy x provers verifiers) (sym f)
-
+module _ (bytes provers verifiers : List ℕ) (m : FlatMessage) (e : readingBy m provers verifiers ≡ readingOf bytes) where
   module _ (some : 0 < m .refusal) where
     is-refused : readingOf bytes ≡ refused (m .refusal)
-    is-refused = is-reading ∙ rw (ne-eqb (m .refusal) 0 (λ z. omega (arith, z, some)))
+    is-refused = sym e ∙ rw (ne-eqb (m .refusal) 0 (λ z. omega (arith, z, some)))
 
     pub arrived-refused : (connection : Connection) (g : Given) (cache : List ℕ) → received connection bytes g cache ≡ resultWith (unchanged (Refused (m .refusal)) connection) [] cache
     unfolding received
@@ -59,7 +54,7 @@ module _ (bytes provers verifiers : List ℕ) (message : Message) (m : FlatMessa
 
   module _ (none : m .refusal ≤ 0) where
     is-read : readingOf bytes ≡ readAs (made (m .number) (m .place) (m .size) (m .bit) (entries (m .provers) provers) (entries (m .verifiers) verifiers))
-    is-read = is-reading ∙ rw (eq-eqb (m .refusal) 0 (omega arith))
+    is-read = sym e ∙ rw (eq-eqb (m .refusal) 0 (omega arith))
 
     pub arrived-read : (connection : Connection) (g : Given) (cache : List ℕ) →
         received connection bytes g cache

@@ -12,9 +12,8 @@ use connection::step_flat;
 use flat::slots_of;
 use moves::NO_ACTIONS;
 use wire::Span;
-use wire::flatten;
 use wire::part;
-use wire::read;
+use wire::read_flat;
 use wire::schema;
 
 // A code that no event has: a step with it is refused.
@@ -112,7 +111,7 @@ pub fn receive(
 {
     let mut provers = [0; 16];
     let mut verifiers = [0; 16];
-    let message = flatten(read(bytes, &mut provers, &mut verifiers));
+    let message = read_flat(bytes, &mut provers, &mut verifiers);
     let refusal = message.refusal;
     if refusal > refusals::NONE {
         *slots = slots_of(NO_ACTIONS);

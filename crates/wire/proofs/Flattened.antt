@@ -3,26 +3,15 @@ use mathlib.Core.Path.{_≡_, refl}
 use mathlib.Core.List.{List, []}
 use Prim.Native.Nat.{ℕ, _≤_}
 use native.Mathlib.Omega.{arith}
-use mathlib.Core.Bool.{cond}
-use lib.Dec.{eqb}
-use Rattle.wire.specs.Fault.{Reading, readAs, refused}
-use Rattle.wire.specs.Flat.{flatOf, flatIn}
+use Rattle.wire.specs.Fault.{readAs}
+use Rattle.wire.specs.Flat.{flatOf, flatIn, readingBy}
 use Rattle.wire.specs.Message.{made}
-use Rattle.wire.specs.Message as spec
-use Rattle.wire.specs.declared.flat.FlatMessage.{FlatMessage}
 use Rattle.wire.proofs.Lengths.{length-entries}
 use Rattle.wire.specs.Numbers.{CountsFit, entries, readingIn}
 use Rattle.wire.specs.declared.Message.{Message}
 use Rattle.wire.specs.declared.Message.the-variants.{Hello, Close, DatExpired, Dat, ReRa, RaProver, RaVerifier, Data, Ack, Refused}
 use Rattle.wire.specs.declared.Refusal.the-variants.{EndsTooSoon, UnexpectedField, WrongWireType, NumberTooLarge, TooManySuites}
 use Rattle.wire.proofs.Onward.{no-entries}
-
--- What the numbers say, with the two lists.
-abbrev pub readingBy : FlatMessage → (provers verifiers : List ℕ) → Reading spec.Message
-readingBy m provers verifiers =
-    cond (eqb (m .refusal) 0)
-    (readAs (made (m .number) (m .place) (m .size) (m .bit) (entries (m .provers) provers) (entries (m .verifiers) verifiers)))
-    (refused (m .refusal))
 
 -- A message without suites.
 listless : (number place size bit : ℕ) (provers verifiers : List ℕ) →

@@ -4,17 +4,15 @@ use mathlib.Core.List.{List, append-nil}
 use Prim.Native.Nat.{ℕ, _+_, _-_, _≤_}
 use native.Mathlib.Omega.{arith}
 use lib.ListN.{length, take, replicate, length-append, length-take, length-replicate}
-use Rattle.wire.specs.Fault.{Reading}
+use mathlib.Core.Bool.{Bool, true, false, cond}
+use lib.Dec.{eqb}
+use Rattle.wire.specs.Fault.{Reading, readAs, refused}
+use Rattle.wire.specs.Flat.{flatIn}
 use Rattle.wire.specs.Message as spec
-use Rattle.wire.specs.Numbers.{CountsFit, entries, padded, proversAfter, readingIn, verifiersAfter}
-use Rattle.wire.specs.declared.Message.{Message}
-use Rattle.wire.specs.declared.Message.the-variants.{Hello, Close, DatExpired, Dat, ReRa, RaProver, RaVerifier, Data, Ack, Refused}
+use Rattle.wire.specs.Numbers.{entries, padded, proversAfter, verifiersAfter}
 
 pub length-entries : (count : ℕ) (list : List ℕ) → length (entries count list) ≡ count
 length-entries count list = rw (length-append, length-take, length-replicate) (omega arith)
-
-holds-16 : (count : ℕ) (list : List ℕ) → count ≤ 16 → list ≡ padded (entries count list) → length list ≡ 16
-holds-16 count list h e = ap length e ∙ rw (length-append, length-replicate, length-entries count list) (omega arith)
 
 -- As many as were counted are there.
 pub all-there : (count : ℕ) (list : List ℕ) → length list ≡ 16 → count ≤ 16 → entries count list ≡ take count list
@@ -22,27 +20,19 @@ all-there count list e h =
     let z : count - 16 ≡ 0 = omega arith in
     rw (e, z, append-nil)
 
-module _ (provers verifiers before : List ℕ) (sixteen : length before ≡ 16) where
-  pub provers-16 : (message : Message) → CountsFit message → provers ≡ proversAfter (readingIn message provers verifiers) before → length provers ≡ 16
-  provers-16 (Hello token p v) f e = holds-16 p provers (f .0) e
-  provers-16 Close f e = ap length e ∙ sixteen
-  provers-16 DatExpired f e = ap length e ∙ sixteen
-  provers-16 (Dat token) f e = ap length e ∙ sixteen
-  provers-16 ReRa f e = ap length e ∙ sixteen
-  provers-16 (RaProver payload) f e = ap length e ∙ sixteen
-  provers-16 (RaVerifier payload) f e = ap length e ∙ sixteen
-  provers-16 (Data payload bit) f e = ap length e ∙ sixteen
-  provers-16 (Ack bit) f e = ap length e ∙ sixteen
-  provers-16 (Refused refusal) f e = ap length e ∙ sixteen
+length-padded-16 : (suites : List ℕ) → length suites ≤ 16 → length (padded suites) ≡ 16
+length-padded-16 suites h = rw (length-append, length-replicate) (omega arith)
 
-  pub verifiers-16 : (message : Message) → CountsFit message → verifiers ≡ verifiersAfter (readingIn message provers verifiers) before → length verifiers ≡ 16
-  verifiers-16 (Hello token p v) f e = holds-16 v verifiers (f .1) e
-  verifiers-16 Close f e = ap length e ∙ sixteen
-  verifiers-16 DatExpired f e = ap length e ∙ sixteen
-  verifiers-16 (Dat token) f e = ap length e ∙ sixteen
-  verifiers-16 ReRa f e = ap length e ∙ sixteen
-  verifiers-16 (RaProver payload) f e = ap length e ∙ sixteen
-  verifiers-16 (RaVerifier payload) f e = ap length e ∙ sixteen
-  verifiers-16 (Data payload bit) f e = ap length e ∙ sixteen
-  verifiers-16 (Ack bit) f e = ap length e ∙ sixteen
-  verifiers-16 (Refused refusal) f e = ap length e ∙ sixteen
+-- The lists after a reading.
+module _ (before : List ℕ) (sixteen : length before ≡ 16) where
+  written : (suites : List ℕ) → length suites ≤ 16 → (t : Bool) → length (cond t (padded suites) before) ≡ 16
+  written suites h true = length-padded-16 suites h
+  written suites h false = sixteen
+
+  pub provers-16 : (reading : Reading spec.Message) → flatIn reading .provers ≤ 16 → length (proversAfter reading before) ≡ 16
+  provers-16 (readAs m) h = written (m .provers) h (eqb (m .number) 1)
+  provers-16 (refused number) h = sixteen
+
+  pub verifiers-16 : (reading : Reading spec.Message) → flatIn reading .verifiers ≤ 16 → length (verifiersAfter reading before) ≡ 16
+  verifiers-16 (readAs m) h = written (m .verifiers) h (eqb (m .number) 1)
+  verifiers-16 (refused number) h = sixteen

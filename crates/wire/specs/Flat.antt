@@ -1,9 +1,13 @@
 -- A message as numbers: a refusal's number, 0 for none, and what the message carries.
 use Prim.Native.Nat.{ℕ}
+use mathlib.Core.Bool.{cond}
+use mathlib.Core.List.{List}
+use lib.Dec.{eqb}
 use lib.ListN.{length}
 use Rattle.wire.specs.Fault.{Reading, readAs, refused}
+use Rattle.wire.specs.Message.{made}
 use Rattle.wire.specs.Message as spec
-use Rattle.wire.specs.Numbers.{refusalNumber}
+use Rattle.wire.specs.Numbers.{entries, refusalNumber}
 use Rattle.wire.specs.declared.Message.{Message}
 use Rattle.wire.specs.declared.Message.the-variants.{Hello, Close, DatExpired, Dat, ReRa, RaProver, RaVerifier, Data, Ack, Refused}
 use Rattle.wire.specs.declared.flat.FlatMessage.{FlatMessage}
@@ -37,3 +41,10 @@ flatOf (Refused refusal) = flat (refusalNumber refusal) 0 0 0 0 0 0
 abbrev pub flatIn : Reading spec.Message → FlatMessage
 flatIn (readAs m) = flat 0 (m .number) (m .bit) (length (m .provers)) (length (m .verifiers)) (m .place) (m .size)
 flatIn (refused number) = flat number 0 0 0 0 0 0
+
+-- What the numbers say, with the two lists.
+abbrev pub readingBy : FlatMessage → (provers verifiers : List ℕ) → Reading spec.Message
+readingBy m provers verifiers =
+    cond (eqb (m .refusal) 0)
+    (readAs (made (m .number) (m .place) (m .size) (m .bit) (entries (m .provers) provers) (entries (m .verifiers) verifiers)))
+    (refused (m .refusal))

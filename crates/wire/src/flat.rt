@@ -1,7 +1,11 @@
 // A message as numbers, for a caller that cannot take an enum.
 ghost use mathlib.Core.Path.{_≡_};
-ghost use Rattle.wire.specs.Flat.{flat, flatOf};
+ghost use Prim.Native.Nat.{_≤_};
+ghost use Rattle.wire.specs.Flat.{flat, flatIn, flatOf, readingBy};
+ghost use Rattle.wire.specs.Message.{readingOf};
+ghost use Rattle.wire.specs.Numbers.{proversAfter, verifiersAfter};
 use crate::Message;
+use crate::read;
 use crate::refusal_number;
 use crate::schema;
 
@@ -74,4 +78,15 @@ pub fn flatten(message: Message) -> FlatMessage
             size: 0,
         },
     }
+}
+
+// Reads one message as numbers.
+pub fn read_flat(bytes: &[u8], provers: &mut [u32; 16], verifiers: &mut [u32; 16]) -> FlatMessage
+    ensures { λ r. ⌜ r ≡ flatIn (readingOf (now (bytes .entry))) ⌝ }
+    ensures { λ _. ⌜ now (provers .exit) ≡ proversAfter (readingOf (now (bytes .entry))) (now (provers .entry)) ⌝ }
+    ensures { λ _. ⌜ now (verifiers .exit) ≡ verifiersAfter (readingOf (now (bytes .entry))) (now (verifiers .entry)) ⌝ }
+    ensures { λ r. ⌜ readingBy r (now (provers .exit)) (now (verifiers .exit)) ≡ readingOf (now (bytes .entry)) ⌝ }
+    ensures { λ r. ⌜ (r .provers ≤ 16) × (r .verifiers ≤ 16) ⌝ }
+{
+    flatten(read(bytes, provers, verifiers))
 }

@@ -21,6 +21,7 @@ use crate::fields::Inner;
 use crate::fields::read_fields;
 pub use crate::flat::FlatMessage;
 pub use crate::flat::flatten;
+pub use crate::flat::read_flat;
 use crate::schema::is_unknown;
 use crate::schema::outer_form;
 use crate::schema::wrong_type;
