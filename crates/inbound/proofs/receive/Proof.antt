@@ -28,12 +28,19 @@ returns c =
     let a = c .before .before .before .before .before .before .before .before .before .args in
     let r = c .before .before .«read-flat» in
     let g = given (a .token) (a .«token-refusal») (now (a .«our-verifiers»)) (now (a .«our-provers»)) in
-    let e = arrived-refused (now (a .bytes)) _ _ (r .result) (r .ensures .1 .1 .1 .0) (c .before .if1 .taken) (recordIn (now (a .numbers))) g (now (a .cache)) in
-    (sym (ap (λ (x : Result). x .outcome .answer) e),
-    (sym (ap (λ (x : Result). x .outcome .connection) e),
-    (c .«slots-of» .ensures ∙ sym (ap (λ (x : Result). slotsOf (x .outcome .actions)) e),
-    (sym (ap (λ (x : Result). x .cache) e),
-    refused-place (now (a .bytes)) _ _ (r .result) (r .ensures .1 .1 .1 .0) (c .before .if1 .taken)))))
+    let e = arrived-refused (now (a .bytes)) _ _ (r .result) (r .ensures .1 .1 .1 .0) (c .before .if1 .taken) (recordIn (now (a .numbers))) g (now (a .cache)) in (
+      sym (ap (λ (x : Result). x .outcome .answer) e),
+      (
+        sym (ap (λ (x : Result). x .outcome .connection) e),
+        (
+          c .«slots-of» .ensures ∙ sym (ap (λ (x : Result). slotsOf (x .outcome .actions)) e),
+          (
+            sym (ap (λ (x : Result). x .cache) e),
+            refused-place (now (a .bytes)) _ _ (r .result) (r .ensures .1 .1 .1 .0) (c .before .if1 .taken),
+          ),
+        ),
+      ),
+    )
 
 -- Both lists have sixteen entries after reading.
 module _ (s : tie.After-read-flat) where
@@ -66,23 +73,30 @@ returns-2 c =
     let g = given (a .token) (a .«token-refusal») (now (a .«our-verifiers»)) (now (a .«our-provers»)) in
     let e = arrived-read bytes _ _ m (r .ensures .1 .1 .1 .0) none (recordIn (now (a .numbers))) g (now (a .cache)) in
     let p : firstOf (m .provers) (r .last .1 .0) ≡ entries (m .provers) (r .last .1 .0) =
-      first-entries (m .provers) _ (long-provers (c .before .before .before .before .before .before .before .before .before .before .before .before .before .before)) (r .ensures .1 .1 .1 .1 .0)
+    first-entries (m .provers) _ (long-provers (c .before .before .before .before .before .before .before .before .before .before .before .before .before .before)) (r .ensures .1 .1 .1 .1 .0)
     in
     let v : firstOf (m .verifiers) (r .last .1 .1 .0) ≡ entries (m .verifiers) (r .last .1 .1 .0) =
-      first-entries (m .verifiers) _ (long-verifiers (c .before .before .before .before .before .before .before .before .before .before .before .before .before .before)) (r .ensures .1 .1 .1 .1 .1)
+    first-entries (m .verifiers) _ (long-verifiers (c .before .before .before .before .before .before .before .before .before .before .before .before .before .before)) (r .ensures .1 .1 .1 .1 .1)
     in
     let call : ℕ → Event → (payload peerProvers peerVerifiers : List ℕ) → Result =
-      λ also event payload peerProvers peerVerifiers. resultAlso also (recordIn (now (a .numbers))) (callOf event payload (now (a .«our-verifiers»)) peerProvers peerVerifiers (now (a .«our-provers»))) (now (a .cache))
+    λ also event payload peerProvers peerVerifiers. resultAlso also (recordIn (now (a .numbers))) (callOf event payload (now (a .«our-verifiers»)) peerProvers peerVerifiers (now (a .«our-provers»))) (now (a .cache))
     in
     let same : call (c .before .before .before .before .before .before .before .before .before .before .«also-of» .result) (c .before .before .before .before .before .before .before .before .before .«event-of» .result) (now (c .before .before .before .before .before .before .before .before .before .before .before .before .part .result)) (now (c .before .before .before .before .before .before .before .first .result)) (now (c .before .before .before .before .before .first2 .result)) ≡ received (recordIn (now (a .numbers))) bytes g (now (a .cache)) =
-      (λ i. call (c .before .before .before .before .before .before .before .before .before .before .«also-of» .ensures i) (c .before .before .before .before .before .before .before .before .before .«event-of» .ensures i) (c .before .before .before .before .before .before .before .before .before .before .before .before .part .ensures i) ((c .before .before .before .before .before .before .before .first .ensures ∙ p) i) ((c .before .before .before .before .before .first2 .ensures ∙ v) i)) ∙ sym e
+    (λ i. call (c .before .before .before .before .before .before .before .before .before .before .«also-of» .ensures i) (c .before .before .before .before .before .before .before .before .before .«event-of» .ensures i) (c .before .before .before .before .before .before .before .before .before .before .before .before .part .ensures i) ((c .before .before .before .before .before .before .before .first .ensures ∙ p) i) ((c .before .before .before .before .before .first2 .ensures ∙ v) i)) ∙ sym e
     in
-    let s = c .before .before .«step-flat» .ensures in
-    (s .0 ∙ ap (λ (x : Result). x .outcome .answer) same,
-    (s .1 .0 ∙ ap (λ (x : Result). x .outcome .connection) same,
-    (s .1 .1 .0 ∙ ap (λ (x : Result). slotsOf (x .outcome .actions)) same,
-    (s .1 .1 .1 ∙ ap (λ (x : Result). x .cache) same,
-    read-place bytes _ _ m (r .ensures .1 .1 .1 .0) none))))
+    let s = c .before .before .«step-flat» .ensures in (
+      s .0 ∙ ap (λ (x : Result). x .outcome .answer) same,
+      (
+        s .1 .0 ∙ ap (λ (x : Result). x .outcome .connection) same,
+        (
+          s .1 .1 .0 ∙ ap (λ (x : Result). slotsOf (x .outcome .actions)) same,
+          (
+            s .1 .1 .1 ∙ ap (λ (x : Result). x .cache) same,
+            read-place bytes _ _ m (r .ensures .1 .1 .1 .0) none,
+          ),
+        ),
+      ),
+    )
 
 pub receive-spec : {M : Type 1} → statement M
 receive-spec =
