@@ -7,7 +7,7 @@ use borrow.Author.Tests.{ne-eqb}
 use Rattle.wire.specs.Fault.{Reading, readAs, refused}
 use Rattle.wire.specs.Message.{Message}
 use Rattle.wire.specs.Numbers.{CountsFit, refusalNumber, readingIn, entries, padded, proversAfter, verifiersAfter}
-use Rattle.wire.specs.Parts.{Lent, MessageAs, TidyInner, carried, carriedIn, helloOf, innerIn, innerOf, viewOf}
+use Rattle.wire.specs.Parts.{HelloAs, Lent, MessageAs, TidyInner, carried, carriedIn, innerIn, innerOf, viewOf}
 use Rattle.wire.specs.declared.Message as answer
 use Rattle.wire.specs.declared.Message.the-variants.{Refused}
 use Rattle.wire.specs.declared.Refusal.{Refusal}
@@ -36,23 +36,20 @@ module _ (number : ℕ) (bytes : List ℕ) (start size : ℕ) (provers verifiers
     reading-is = ap carriedIn (sym e ∙ ap (λ (q : Inner). innerIn number q provers′ verifiers′) k)
 
     -- A message other than a hello leaves both lists.
-    pub message-read : (number ≡ 1 → ⊥) → (r′ : answer.Message) → MessageAs number fields r′ → CountsFit r′ →
-        Answers r′ provers verifiers provers′ verifiers′ (carriedIn (innerOf number bytes start size))
-    message-read n r′ a f = (
-      a provers′ verifiers′ ∙ sym reading-is,
-      (rw (reading-is, ne-eqb number 1 n) (l .keeps n .0), (rw (reading-is, ne-eqb number 1 n) (l .keeps n .1), f)),
+    pub message-read : (p v : List ℕ) → (number ≡ 1 → ⊥) → (r′ : answer.Message) → MessageAs number fields r′ → CountsFit r′ →
+        Answers r′ p v p v (carriedIn (innerOf number bytes start size))
+    message-read p v n r′ a f = (
+      a p v provers′ verifiers′ ∙ sym reading-is,
+      (rw (reading-is, ne-eqb number 1 n), (rw (reading-is, ne-eqb number 1 n), f)),
     )
 
--- A hello writes both.
-pub hello-read : (bytes : List ℕ) (start size : ℕ) (provers₀ verifiers₀ provers verifiers provers′ verifiers′ : List ℕ) (r : Inner) →
-    innerIn 1 r provers′ verifiers′ ≡ innerOf 1 bytes start size → Lent 1 r provers verifiers provers′ verifiers′ → (fields : Fields) → r ≡ inner.Read fields →
-    (readAs (carried (viewOf 1 fields provers′ verifiers′)) ≡ helloOf bytes start size)
-    × ((provers′ ≡ proversAfter (helloOf bytes start size) provers₀)
-    × ((verifiers′ ≡ verifiersAfter (helloOf bytes start size) verifiers₀) × ((fields .provers ≤ 16) × (fields .verifiers ≤ 16))))
-hello-read bytes start size provers₀ verifiers₀ provers verifiers provers′ verifiers′ r e l fields k =
-    let is = reading-is 1 bytes start size provers verifiers provers′ verifiers′ r e l fields k in
-    let t = subst (λ (q : Inner). TidyInner q provers′ verifiers′) k (l .tidies refl) in
-    (sym is, (rw (is) (t .0 .1), (rw (is) (t .1 .1), (t .0 .0, t .1 .0))))
+    -- A hello writes both.
+    pub hello-read : (p v : List ℕ) → number ≡ 1 → (r′ : answer.Message) → HelloAs fields r′ →
+        Answers r′ p v provers′ verifiers′ (carriedIn (innerOf number bytes start size))
+    hello-read p v n r′ a =
+        let t = subst (λ (q : Inner). TidyInner q provers′ verifiers′) k (l .tidies n) in
+        let is = reading-is ∙ ap (λ (m : ℕ). readAs (carried (viewOf m fields provers′ verifiers′))) n in
+        (a .0 provers′ verifiers′ ∙ sym is, (rw (is) (t .0 .1), (rw (is) (t .1 .1), a .1 (t .0 .0, t .1 .0))))
 
 pub answers-of : (r : answer.Message) (provers verifiers provers′ verifiers′ : List ℕ) (reading reading′ : Reading Message) →
     reading ≡ reading′ → Answers r provers verifiers provers′ verifiers′ reading′ → Answers r provers verifiers provers′ verifiers′ reading

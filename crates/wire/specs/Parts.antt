@@ -11,7 +11,7 @@ use Rattle.wire.specs.Schema.{schema, formIn}
 use Rattle.wire.specs.Fault.{Reading, readAs, refused, judged}
 use Rattle.wire.specs.Faults.{FieldNumbers, noNumbers, adding, numbered, ofEntries, ofList, ofContent, ofField, ofFields, ofInner}
 use Rattle.wire.specs.Message.{Message, made, empty, suitesFrom, suitesIn, filled, withField, withFields, readingOf}
-use Rattle.wire.specs.Numbers.{refusalNumber, readingIn, entries, padded}
+use Rattle.wire.specs.Numbers.{CountsFit, refusalNumber, readingIn, entries, padded}
 use Rattle.wire.specs.declared.Message as answer
 use Rattle.wire.specs.declared.Outer.{Outer}
 use Rattle.wire.specs.declared.Outer.the-variants as outer
@@ -225,11 +225,15 @@ carried m =
 abbrev pub carriedIn : Reading Message → Reading Message
 carriedIn = mapped carried
 
-abbrev pub helloOf : (bytes : List ℕ) (start size : ℕ) → Reading Message
-helloOf bytes start size = carriedIn (innerOf 1 bytes start size)
+-- A hello's suites are those of the two lists.
+abbrev pub HelloAs : Fields → answer.Message → Type 0
+HelloAs fields r =
+    ((provers verifiers : List ℕ) → readingIn r provers verifiers ≡ readAs (carried (viewOf 1 fields provers verifiers)))
+    × (((fields .provers ≤ 16) × (fields .verifiers ≤ 16)) → CountsFit r)
 
+-- Any other message is the same whatever stands in the lists.
 abbrev pub MessageAs : ℕ → Fields → answer.Message → Type 0
-MessageAs number fields r = (provers verifiers : List ℕ) → readingIn r provers verifiers ≡ readAs (carried (viewOf number fields provers verifiers))
+MessageAs number fields r = (provers verifiers provers′ verifiers′ : List ℕ) → readingIn r provers verifiers ≡ readAs (carried (viewOf number fields provers′ verifiers′))
 
 -- The one message stands at `start`, and reading the bytes is reading its fields.
 pub record Located (number start size : ℕ) (bytes : List ℕ) : Type 0 where

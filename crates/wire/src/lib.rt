@@ -4,7 +4,7 @@ ghost use Prim.Native.Nat.{_+_, _≤_};
 ghost use lib.ListN.{length};
 ghost use Rattle.wire.specs.Message.{readingOf};
 ghost use Rattle.wire.specs.Numbers.{CountsFit, partOf, proversAfter, readingIn, refusalNumber, verifiersAfter};
-ghost use Rattle.wire.specs.Parts.{Cleared, Lent, MessageAs, Opened, helloOf, innerIn, innerOf};
+ghost use Rattle.wire.specs.Parts.{Cleared, HelloAs, Lent, MessageAs, Opened, innerIn, innerOf};
 
 mod block;
 mod fields;
@@ -125,44 +125,17 @@ fn inner(
     }
 }
 
-// A hello, whose suites are written to both lists if it shows no fault.
-fn hello(
-    bytes: &[u8],
-    start: usize,
-    size: usize,
-    provers: &mut [u32; 16],
-    verifiers: &mut [u32; 16],
-) -> Message
-    requires { ⌜ start + size ≤ length (now bytes) ⌝ }
-    ensures { λ r. ⌜ readingIn r (now (provers .exit)) (now (verifiers .exit)) ≡ helloOf (now (bytes .entry)) start size ⌝ }
-    ensures { λ _. ⌜ now (provers .exit) ≡ proversAfter (helloOf (now (bytes .entry)) start size) (now (provers .entry)) ⌝ }
-    ensures { λ _. ⌜ now (verifiers .exit) ≡ verifiersAfter (helloOf (now (bytes .entry)) start size) (now (verifiers .entry)) ⌝ }
-    ensures { λ r. ⌜ CountsFit r ⌝ }
+// A hello, from its fields.
+fn hello_of(fields: Fields) -> Message
+    ensures { λ r. ⌜ HelloAs fields r ⌝ }
 {
-    let mut peer_provers = [0; 16];
-    let mut peer_verifiers = [0; 16];
-    let read = inner(
-        schema::HELLO,
-        bytes,
-        start,
-        size,
-        &mut peer_provers,
-        &mut peer_verifiers,
-    );
-    match read {
-        Inner::Fault(refusal) => Message::Refused(refusal),
-        Inner::Read(fields) => {
-            *provers = peer_provers;
-            *verifiers = peer_verifiers;
-            Message::Hello {
-                token: Span {
-                    place: fields.place,
-                    size: fields.size,
-                },
-                provers: fields.provers,
-                verifiers: fields.verifiers,
-            }
-        }
+    Message::Hello {
+        token: Span {
+            place: fields.place,
+            size: fields.size,
+        },
+        provers: fields.provers,
+        verifiers: fields.verifiers,
     }
 }
 
@@ -203,13 +176,26 @@ pub fn read(bytes: &[u8], provers: &mut [u32; 16], verifiers: &mut [u32; 16]) ->
     match found {
         Outer::Fault(refusal) => Message::Refused(refusal),
         Outer::Message(message, start, size) => {
-            if message == schema::HELLO {
-                return hello(bytes, start, size, provers, verifiers);
-            }
-            let read = inner(message, bytes, start, size, provers, verifiers);
+            let mut peer_provers = [0; 16];
+            let mut peer_verifiers = [0; 16];
+            let read = inner(
+                message,
+                bytes,
+                start,
+                size,
+                &mut peer_provers,
+                &mut peer_verifiers,
+            );
             match read {
                 Inner::Fault(refusal) => Message::Refused(refusal),
-                Inner::Read(fields) => message_of(message, fields),
+                Inner::Read(fields) => {
+                    if message == schema::HELLO {
+                        *provers = peer_provers;
+                        *verifiers = peer_verifiers;
+                        return hello_of(fields);
+                    }
+                    message_of(message, fields)
+                }
             }
         }
     }

@@ -18,17 +18,17 @@ last c =
     let a = c .before .args in
     let r = c .match .rest in
     let low : 6 ≤ a .message = omega (arith, c .before .pre .0, r .0 .0 .0 .0 .0 .0 .1, r .0 .0 .0 .0 .0 .1, r .0 .0 .0 .0 .1, r .0 .0 .0 .1) in
-    (by-number (a .message) 9 (omega (arith, low, c .before .pre .1, r .0 .0 .1, r .0 .1, r .1)) (a .fields), tt)
+    (λ p v. by-number (a .message) 9 (omega (arith, low, c .before .pre .1, r .0 .0 .1, r .0 .1, r .1)) (a .fields), tt)
 
 pub message-of-spec : {M : Type 1} → statement M
 message-of-spec =
     tie.close
     (tie.spec
-    (λ c. (by-number _ 2 (c .match .keys1) (c .before .args .fields), tt))
-    (λ c. (by-number _ 3 (c .match .keys2) (c .before .args .fields), tt))
-    (λ c. (by-number _ 4 (c .match .keys3) (c .before .args .fields), tt))
-    (λ c. (by-number _ 5 (c .match .keys4) (c .before .args .fields), tt))
-    (λ c. (by-number _ 6 (c .match .keys5) (c .before .args .fields), tt))
-    (λ c. (by-number _ 7 (c .match .keys6) (c .before .args .fields), tt))
-    (λ c. (by-number _ 8 (c .match .keys7) (c .before .args .fields), tt))
+    (λ c. (λ p v. by-number _ 2 (c .match .keys1) (c .before .args .fields), tt))
+    (λ c. (λ p v. by-number _ 3 (c .match .keys2) (c .before .args .fields), tt))
+    (λ c. (λ p v. by-number _ 4 (c .match .keys3) (c .before .args .fields), tt))
+    (λ c. (λ p v. by-number _ 5 (c .match .keys4) (c .before .args .fields), tt))
+    (λ c. (λ p v. by-number _ 6 (c .match .keys5) (c .before .args .fields), tt))
+    (λ c. (λ p v. by-number _ 7 (c .match .keys6) (c .before .args .fields), tt))
+    (λ c. (λ p v. by-number _ 8 (c .match .keys7) (c .before .args .fields), tt))
     last)
