@@ -1,105 +1,13 @@
 /*
- * The interface for C under test: every refusal, the worked cases of document 01 for tokens and
- * suites, its limits, and a block that is sent and repeated. Guard bytes lie around everything that
- * a call may write.
+ * The step at the interface for C under test: every refusal, the worked cases of document 01 for
+ * tokens and suites, its limits, and a block that is sent and repeated. Guard bytes lie around
+ * everything that a call may write.
  */
-#include <stdio.h>
-#include <stdlib.h>
-#include <string.h>
+#include "bench.h"
 
-#include "menhotrac.h"
-
-enum {
-    GUARD = 32,
-    FILLER = 0xa5,
-    FULL = MENHOTRAC_MIN_CACHE,
-    BLOCK = 5
-};
-
-#define COUNT(array) (sizeof(array) / sizeof *(array))
-#define LIST(suites) {(suites), COUNT(suites)}
-#define CHECK(holds) check((holds), #holds, __LINE__)
-
-static unsigned long checks;
-static const char *running = "start";
-
-static void check(int holds, const char *what, int line)
-{
-    checks++;
-    if (!holds) {
-        fprintf(stderr, "%s:%d: %s: %s is wrong\n", __FILE__, line, running, what);
-        exit(EXIT_FAILURE);
-    }
-}
-
-/* ---- What calls are made with ---- */
-
-static const menhotrac_connection fresh = {.state = MENHOTRAC_STATE_CLOSED_UNLOCKED};
-static const menhotrac_connection greeted = {
-    .state = MENHOTRAC_STATE_WAIT_FOR_HELLO, .handled = 1, .h = 1
-};
-static const menhotrac_connection greeted_at_limit = {
-    .state = MENHOTRAC_STATE_WAIT_FOR_HELLO, .handled = UINT32_MAX, .h = 1
-};
-static const menhotrac_connection both_run = {
-    .state = MENHOTRAC_STATE_WAIT_FOR_RA, .handled = 9, .prover = 7, .verifier = 8, .dat = 2
-};
-static const menhotrac_connection expired = {
-    .state = MENHOTRAC_STATE_WAIT_FOR_DAT_AND_RA_VERIFIER, .handled = 9, .h = 9
-};
-static const menhotrac_connection ready = {
-    .state = MENHOTRAC_STATE_ESTABLISHED, .handled = 9, .dat = 2, .ra = 4
-};
-static const menhotrac_connection ready_at_limit = {
-    .state = MENHOTRAC_STATE_ESTABLISHED, .handled = UINT32_MAX, .dat = 2, .ra = 4
-};
-static const menhotrac_connection ready_without_ra = {
-    .state = MENHOTRAC_STATE_ESTABLISHED, .handled = 9, .dat = 2
-};
-static const menhotrac_connection waiting = {
-    .state = MENHOTRAC_STATE_WAIT_FOR_ACK, .awaiting_ack = 1, .next_send_bit = 1, .cached_len = 3,
-    .handled = 9, .dat = 2, .ra = 4, .ack = 9
-};
-static const menhotrac_connection locked = {
-    .state = MENHOTRAC_STATE_CLOSED_LOCKED, .handled = 9
-};
-
-static const uint8_t block[BLOCK] = {10, 20, 30, 40, 50};
 static const uint8_t too_long[MENHOTRAC_MAX_PAYLOAD + 1];
-static const uint32_t suite_1[] = {1};
 static const uint32_t suite_2[] = {2};
-static const uint32_t suite_3[] = {3};
-static const uint32_t suites_3_7[] = {3, 7};
-static const uint32_t suites_7_3[] = {7, 3};
 static const uint32_t sixteen[] = {2, 3, 4, 5, 6, 7, 8, 9, 10, 11, 12, 13, 14, 15, 16, 1};
-static const uint32_t seventeen[] = {1, 1, 1, 1, 1, 1, 1, 1, 1, 1, 1, 1, 1, 1, 1, 1, 1};
-
-/* A token with a verdict, at the boot run's time. */
-#define TOKEN(number, verdict_given, expires) \
-    {.code = (number), .verdict = (verdict_given), .expiry = (expires), .now = 1000}
-#define HELLO(verdict_given) TOKEN(MENHOTRAC_EVENT_SC_HELLO, (verdict_given), 1060)
-
-/* A connection with all that a call writes; there is no padding. */
-struct bench {
-    uint8_t before[GUARD];
-    menhotrac_connection connection;
-    uint8_t between[GUARD];
-    uint8_t cache[FULL];
-    uint8_t beside[GUARD];
-    menhotrac_actions actions;
-    uint8_t after[GUARD];
-};
-
-static void set_up(struct bench *bench, const menhotrac_connection *connection)
-{
-    memset(bench, FILLER, sizeof *bench);
-    bench->connection = *connection;
-}
-
-static uint32_t step(struct bench *bench, const menhotrac_call *call)
-{
-    return menhotrac_call_step(&bench->connection, call, bench->cache, FULL, &bench->actions);
-}
 
 /* Whether guards and cache are those of `expected`, except for what a sent block changes. */
 static int kept_around(const struct bench *bench, const struct bench *expected, size_t sent)
@@ -114,8 +22,8 @@ static int kept_around(const struct bench *bench, const struct bench *expected, 
 
 /* ---- Refused and ignored calls ---- */
 
-typedef uint32_t face(menhotrac_connection *connection, const menhotrac_call *call,
-                      uint8_t *cache, size_t cache_len, menhotrac_actions *actions);
+typedef uint32_t entry(menhotrac_connection *connection, const menhotrac_call *call,
+                       uint8_t *cache, size_t cache_len, menhotrac_actions *actions);
 
 /* The archive without the tests of menhotrac_call_step. */
 static uint32_t bare_step(menhotrac_connection *connection, const menhotrac_call *call,
@@ -129,7 +37,7 @@ static uint32_t bare_step(menhotrac_connection *connection, const menhotrac_call
                           call->our_provers.suites, call->our_provers.len);
 }
 
-static face *const faces[] = {bare_step, menhotrac_call_step};
+static entry *const entries[] = {bare_step, menhotrac_call_step};
 
 struct unchanged_case {
     const char *name;
@@ -203,7 +111,7 @@ static const struct unchanged_case ignored[] = {
 };
 
 /* Record, cache and guards as they were, and all actions 0. */
-static void check_unchanged(const struct unchanged_case *given, face *call)
+static void check_unchanged(const struct unchanged_case *given, entry *call)
 {
     struct bench bench;
     struct bench expected;
@@ -223,8 +131,8 @@ static void test_unchanged(const struct unchanged_case *cases, size_t count)
     size_t j;
 
     for (i = 0; i < count; i++) {
-        for (j = 0; j < COUNT(faces); j++)
-            check_unchanged(&cases[i], faces[j]);
+        for (j = 0; j < COUNT(entries); j++)
+            check_unchanged(&cases[i], entries[j]);
     }
 }
 
@@ -248,187 +156,6 @@ static void test_payload_too_long(void)
     }
 }
 
-/* ---- Refusals of menhotrac_call_step ---- */
-
-/* The memory of a call in one stretch, so that any two of its pieces can be made to overlap. */
-enum {
-    SPACING = 16384,
-    STRETCH = SPACING * (MENHOTRAC_LENT_COUNT + 1)
-};
-
-static const size_t sizes[MENHOTRAC_LENT_COUNT] = {
-    [MENHOTRAC_LENT_ACTIONS] = sizeof(menhotrac_actions),
-    [MENHOTRAC_LENT_CONNECTION] = sizeof(menhotrac_connection),
-    [MENHOTRAC_LENT_CACHE] = FULL,
-    [MENHOTRAC_LENT_CALL] = sizeof(menhotrac_call),
-    [MENHOTRAC_LENT_PAYLOAD] = 8,
-    [MENHOTRAC_LENT_OUR_VERIFIERS] = 4 * sizeof(uint32_t),
-    [MENHOTRAC_LENT_PEER_PROVERS] = 4 * sizeof(uint32_t),
-    [MENHOTRAC_LENT_PEER_VERIFIERS] = 4 * sizeof(uint32_t),
-    [MENHOTRAC_LENT_OUR_PROVERS] = 4 * sizeof(uint32_t)
-};
-
-struct stretch {
-    uint8_t *bytes;
-    void *at[MENHOTRAC_LENT_COUNT];
-};
-
-static void lay_out(struct stretch *stretch)
-{
-    size_t i;
-
-    for (i = 0; i < MENHOTRAC_LENT_COUNT; i++)
-        stretch->at[i] = stretch->bytes + (i + 1) * SPACING;
-}
-
-static menhotrac_list list_at(const struct stretch *stretch, size_t which)
-{
-    menhotrac_list list = {stretch->at[which], sizes[which] / sizeof(uint32_t)};
-
-    return list;
-}
-
-/* Writes the call into its place. The event is one that reads neither payload nor lists. */
-static void write_call(const struct stretch *stretch)
-{
-    menhotrac_call call = {
-        .event = {.code = MENHOTRAC_EVENT_UPPER_START_HANDSHAKE},
-        .payload = stretch->at[MENHOTRAC_LENT_PAYLOAD],
-        .payload_len = sizes[MENHOTRAC_LENT_PAYLOAD],
-        .our_verifiers = list_at(stretch, MENHOTRAC_LENT_OUR_VERIFIERS),
-        .peer_provers = list_at(stretch, MENHOTRAC_LENT_PEER_PROVERS),
-        .peer_verifiers = list_at(stretch, MENHOTRAC_LENT_PEER_VERIFIERS),
-        .our_provers = list_at(stretch, MENHOTRAC_LENT_OUR_PROVERS)
-    };
-
-    memset(stretch->bytes, FILLER, STRETCH);
-    if (stretch->at[MENHOTRAC_LENT_CONNECTION] != NULL)
-        memcpy(stretch->at[MENHOTRAC_LENT_CONNECTION], &fresh, sizeof fresh);
-    if (stretch->at[MENHOTRAC_LENT_CALL] != NULL)
-        memcpy(stretch->at[MENHOTRAC_LENT_CALL], &call, sizeof call);
-}
-
-static uint32_t step_in(const struct stretch *stretch)
-{
-    return menhotrac_call_step(stretch->at[MENHOTRAC_LENT_CONNECTION],
-                               stretch->at[MENHOTRAC_LENT_CALL],
-                               stretch->at[MENHOTRAC_LENT_CACHE], FULL,
-                               stretch->at[MENHOTRAC_LENT_ACTIONS]);
-}
-
-/* Nothing of the stretch is written, except for the actions where they may be. */
-static void check_refused_in(const struct stretch *stretch, uint32_t refusal, int actions_written)
-{
-    uint8_t *expected = malloc(STRETCH);
-    const uint8_t *actions = stretch->at[MENHOTRAC_LENT_ACTIONS];
-
-    CHECK(expected != NULL);
-    write_call(stretch);
-    memcpy(expected, stretch->bytes, STRETCH);
-    if (actions_written)
-        memset(expected + (actions - stretch->bytes), 0, sizes[MENHOTRAC_LENT_ACTIONS]);
-    CHECK(step_in(stretch) == refusal);
-    CHECK(memcmp(expected, stretch->bytes, STRETCH) == 0);
-    free(expected);
-}
-
-static void test_null(struct stretch *stretch)
-{
-    size_t i;
-
-    running = "NULL lent";
-    for (i = 0; i < MENHOTRAC_LENT_COUNT; i++) {
-        lay_out(stretch);
-        stretch->at[i] = NULL;
-        check_refused_in(stretch, MENHOTRAC_REFUSED_NULL, i != MENHOTRAC_LENT_ACTIONS);
-    }
-}
-
-/* Each piece just beside one that is written is taken, and 8 bytes nearer it is refused. */
-static void check_beside(struct stretch *stretch, size_t written, size_t other)
-{
-    uint8_t *start;
-    int actions_written = written != MENHOTRAC_LENT_ACTIONS && other != MENHOTRAC_LENT_ACTIONS;
-
-    lay_out(stretch);
-    start = stretch->at[written];
-    stretch->at[other] = start + sizes[written];
-    write_call(stretch);
-    CHECK(step_in(stretch) == MENHOTRAC_HANDLED);
-    stretch->at[other] = start + sizes[written] - 8;
-    check_refused_in(stretch, MENHOTRAC_REFUSED_OVERLAP, actions_written);
-    stretch->at[other] = start - sizes[other];
-    write_call(stretch);
-    CHECK(step_in(stretch) == MENHOTRAC_HANDLED);
-    stretch->at[other] = start - sizes[other] + 8;
-    check_refused_in(stretch, MENHOTRAC_REFUSED_OVERLAP, actions_written);
-}
-
-static void test_overlap(struct stretch *stretch)
-{
-    size_t written;
-    size_t other;
-
-    running = "overlap";
-    for (written = 0; written < MENHOTRAC_LENT_WRITTEN; written++) {
-        for (other = 0; other < MENHOTRAC_LENT_COUNT; other++) {
-            if (other != written)
-                check_beside(stretch, written, other);
-        }
-    }
-}
-
-/* Single bytes, empty slices and lengths that no memory has. */
-static void test_overlap_limits(void)
-{
-    struct bench bench;
-    menhotrac_call call = {.event = {.code = MENHOTRAC_EVENT_UPPER_CLOSE}};
-
-    running = "limits of an overlap";
-    set_up(&bench, &locked);
-    call.payload = bench.cache + FULL - 1;
-    call.payload_len = 1;
-    CHECK(step(&bench, &call) == MENHOTRAC_REFUSED_OVERLAP);
-    call.payload_len = 0;
-    CHECK(step(&bench, &call) == MENHOTRAC_IGNORED);
-    call.payload = bench.before;
-    call.payload_len = SIZE_MAX;
-    CHECK(step(&bench, &call) == MENHOTRAC_REFUSED_OVERLAP);
-    call.payload_len = 0;
-    call.our_provers.suites = (const uint32_t *)(const void *)bench.before;
-    call.our_provers.len = SIZE_MAX / sizeof(uint32_t) + 2; /* 4 bytes, if they wrapped */
-    CHECK(step(&bench, &call) == MENHOTRAC_REFUSED_OVERLAP);
-}
-
-/* Memory that is only read may overlap: one list for all four, as where both ends have the same. */
-static void test_shared_list(void)
-{
-    struct bench bench;
-    menhotrac_call call = {
-        .event = HELLO(MENHOTRAC_VERDICT_YES), .our_verifiers = LIST(suite_1),
-        .peer_provers = LIST(suite_1), .peer_verifiers = LIST(suite_1), .our_provers = LIST(suite_1)
-    };
-
-    running = "one list for all four";
-    set_up(&bench, &greeted);
-    CHECK(step(&bench, &call) == MENHOTRAC_HANDLED);
-    CHECK(bench.connection.state == MENHOTRAC_STATE_WAIT_FOR_RA);
-}
-
-static void test_lending(void)
-{
-    struct stretch stretch;
-
-    running = "memory for the tests";
-    stretch.bytes = malloc(STRETCH);
-    CHECK(stretch.bytes != NULL);
-    test_null(&stretch);
-    test_overlap(&stretch);
-    free(stretch.bytes);
-    test_overlap_limits();
-    test_shared_list();
-}
-
 /* Empty slices may be NULL; a cache that is empty is too short. */
 static void test_empty_slices(void)
 {
@@ -437,20 +164,20 @@ static void test_empty_slices(void)
     size_t i;
 
     running = "NULL with length 0";
-    for (i = 0; i < COUNT(faces); i++) {
+    for (i = 0; i < COUNT(entries); i++) {
         set_up(&bench, &fresh);
         call.event.code = MENHOTRAC_EVENT_UPPER_START_HANDSHAKE;
-        CHECK(faces[i](&bench.connection, &call, NULL, 0, &bench.actions)
+        CHECK(entries[i](&bench.connection, &call, NULL, 0, &bench.actions)
               == MENHOTRAC_REFUSED_CACHE_TOO_SHORT);
-        CHECK(faces[i](&bench.connection, &call, bench.cache, FULL, &bench.actions)
+        CHECK(entries[i](&bench.connection, &call, bench.cache, FULL, &bench.actions)
               == MENHOTRAC_HANDLED);
         set_up(&bench, &ready);
         call.event.code = MENHOTRAC_EVENT_UPPER_SEND_DATA;
-        CHECK(faces[i](&bench.connection, &call, bench.cache, FULL, &bench.actions)
+        CHECK(entries[i](&bench.connection, &call, bench.cache, FULL, &bench.actions)
               == MENHOTRAC_HANDLED);
         set_up(&bench, &greeted);
         call.event.code = MENHOTRAC_EVENT_SC_HELLO;
-        CHECK(faces[i](&bench.connection, &call, bench.cache, FULL, &bench.actions)
+        CHECK(entries[i](&bench.connection, &call, bench.cache, FULL, &bench.actions)
               == MENHOTRAC_HANDLED);
         CHECK(bench.connection.state == MENHOTRAC_STATE_CLOSED_LOCKED);
     }
@@ -779,6 +506,11 @@ static void test_names(void)
     CHECK(strcmp(menhotrac_answer_name(MENHOTRAC_REFUSED_NUMBER_EXHAUSTED),
                  "number of handled events exhausted") == 0);
     CHECK(strcmp(menhotrac_answer_name(9), "unknown") == 0);
+    CHECK(strcmp(menhotrac_answer_name(20), "unknown") == 0);
+    CHECK(strcmp(menhotrac_answer_name(MENHOTRAC_REFUSED_ENDS_TOO_SOON),
+                 "message ends too soon") == 0);
+    CHECK(strcmp(menhotrac_answer_name(MENHOTRAC_REFUSED_TOO_MANY_SUITES), "too many suites") == 0);
+    CHECK(strcmp(menhotrac_answer_name(26), "unknown") == 0);
     CHECK(strcmp(menhotrac_answer_name(40), "unknown") == 0);
     CHECK(strcmp(menhotrac_answer_name(MENHOTRAC_REFUSED_WRONG_VERDICT), "wrong verdict") == 0);
     CHECK(strcmp(menhotrac_answer_name(MENHOTRAC_REFUSED_OVERLAP),
@@ -796,7 +528,6 @@ int main(void)
     test_unchanged(lowest, COUNT(lowest));
     test_unchanged(ignored, COUNT(ignored));
     test_payload_too_long();
-    test_lending();
     test_empty_slices();
     test_fresh();
     test_seconds_left();
@@ -809,6 +540,6 @@ int main(void)
     test_passed_on();
     test_parts();
     test_names();
-    printf("interface for C: %lu checks passed\n", checks);
+    printf("step: %lu checks passed\n", checks);
     return EXIT_SUCCESS;
 }

@@ -10,15 +10,17 @@
  *     rt staticlib capi
  *     cc -std=c11 -O2 -I host/c -o my_host my_host.c target/staticlib/libcapi.a
  *
- * boot.c beside this header is a small host.
+ * boot.c beside this header is a small host; receive.c shows how one receives messages.
  *
  * MEMORY
  *
- * - The host owns record, cache, payload, suite lists and actions, and lends them for one call.
- *   The library keeps nothing after a call. It allocates nothing and has no variables of its own.
+ * - The host owns record, cache, payload, bytes, suite lists and actions, and lends them for one
+ *   call. The library keeps nothing after a call. It allocates nothing and has no variables of its
+ *   own.
  * - Every connection has a record and a cache of its own, the cache of at least 4,096 bytes. The
  *   host keeps both as the last call left them and writes neither.
- * - What a call writes (record, cache, actions) must not overlap anything else lent to that call.
+ * - What a call writes (record, cache, actions; the lists of menhotrac_read) must not overlap
+ *   anything else lent to that call.
  * - Any numbers may be given. A pointer must be valid for its length, which counts elements. An
  *   empty slice may be NULL with length 0.
  * - Calls for different connections may run at the same time; those for one connection may not.
@@ -27,9 +29,18 @@
  *
  * A call is handled, ignored or refused. An ignored or refused call leaves record and cache as
  * they were and sets all actions to 0 (for 42 and 43 see menhotrac_call_step). Faults are looked
- * for at every call, in this order, and the first one is given: 42 and 43 (menhotrac_call_step
- * alone), then 1 to 8, then 41. After a refusal the host may go on, or end the connection with
- * SC_ERROR or UPPER_CLOSE; one that gets 7 or 8 is refused these too, so the host drops it.
+ * for at every call, in this order, and the first one is given: 42 and 43, in the calls that test
+ * pointers; 21 to 25, where bytes are read; 1 to 8; 41. After a refusal the host may go on, or end
+ * the connection with SC_ERROR or UPPER_CLOSE; one that gets 7 or 8 is refused these too, so the
+ * host drops it.
+ *
+ * MESSAGES OF THE PEER
+ *
+ * The bytes of one whole message go to menhotrac_call_receive, which reads them and steps with the
+ * event that the message is. A HELLO or DAT carries a token, and the step needs the host's verdict
+ * on it: menhotrac_call_read says which message the bytes are and where the token lies, the host
+ * checks it, and then gives the same bytes to menhotrac_call_receive. A host with a reader of its
+ * own makes the events SC_HELLO to SC_ACK itself and calls menhotrac_call_step.
  *
  * TAGS
  *
@@ -136,8 +147,8 @@ enum menhotrac_verdict {
     MENHOTRAC_VERDICT_YES = 1
 };
 
-/* The message to send, with what it holds. */
-enum menhotrac_message {
+/* The message to send or received, with what it holds. */
+enum menhotrac_message_number {
     MENHOTRAC_MESSAGE_NONE = 0,
     MENHOTRAC_MESSAGE_HELLO = 1,       /* our token and our suite lists, which the host has */
     MENHOTRAC_MESSAGE_CLOSE = 2,       /* nothing */
@@ -166,23 +177,28 @@ enum menhotrac_timer_order {
 /* The slice that the payload part is a part of. */
 enum menhotrac_slice {
     MENHOTRAC_SLICE_NONE = 0,
-    MENHOTRAC_SLICE_EVENT = 1, /* the payload lent with the event */
+    MENHOTRAC_SLICE_EVENT = 1, /* the payload of the event or of the message received */
     MENHOTRAC_SLICE_CACHE = 2
 };
 
 enum menhotrac_answer {
     MENHOTRAC_HANDLED = 0,
-    MENHOTRAC_REFUSED_UNKNOWN_CODE = 1,     /* event code above 23 */
-    MENHOTRAC_REFUSED_UNKNOWN_TIMER = 2,    /* HANDSHAKE_TIMEOUT with a timer above 2 */
-    MENHOTRAC_REFUSED_WRONG_BIT = 3,        /* SC_DATA or SC_ACK with a bit above 1 */
-    MENHOTRAC_REFUSED_PAYLOAD_TOO_LONG = 4, /* an event that carries more than 4,096 bytes */
-    MENHOTRAC_REFUSED_CACHE_TOO_SHORT = 5,  /* a cache of less than 4,096 bytes, at any event */
-    MENHOTRAC_REFUSED_LIST_TOO_LONG = 6,    /* SC_HELLO with a list of more than 16 entries */
-    MENHOTRAC_REFUSED_NOT_WELL_FORMED = 7,  /* a record that no call leaves: not well formed */
-    MENHOTRAC_REFUSED_NUMBER_EXHAUSTED = 8, /* would be handled, but `handled` is the largest */
-    MENHOTRAC_REFUSED_WRONG_VERDICT = 41,   /* SC_HELLO or SC_DAT with a verdict above 1 */
-    MENHOTRAC_REFUSED_NULL = 42,            /* menhotrac_call_step: NULL where memory is needed */
-    MENHOTRAC_REFUSED_OVERLAP = 43,         /* menhotrac_call_step: written memory overlaps */
+    MENHOTRAC_REFUSED_UNKNOWN_CODE = 1,      /* event code above 23 */
+    MENHOTRAC_REFUSED_UNKNOWN_TIMER = 2,     /* HANDSHAKE_TIMEOUT with a timer above 2 */
+    MENHOTRAC_REFUSED_WRONG_BIT = 3,         /* SC_DATA or SC_ACK with a bit above 1 */
+    MENHOTRAC_REFUSED_PAYLOAD_TOO_LONG = 4,  /* an event that carries more than 4,096 bytes */
+    MENHOTRAC_REFUSED_CACHE_TOO_SHORT = 5,   /* a cache of less than 4,096 bytes, at any event */
+    MENHOTRAC_REFUSED_LIST_TOO_LONG = 6,     /* SC_HELLO with a list of more than 16 entries */
+    MENHOTRAC_REFUSED_NOT_WELL_FORMED = 7,   /* a record that no call leaves: not well formed */
+    MENHOTRAC_REFUSED_NUMBER_EXHAUSTED = 8,  /* would be handled, but `handled` is the largest */
+    MENHOTRAC_REFUSED_ENDS_TOO_SOON = 21,    /* bytes that end within a number or a part */
+    MENHOTRAC_REFUSED_UNEXPECTED_FIELD = 22, /* not just one message; a field unknown or again */
+    MENHOTRAC_REFUSED_WRONG_WIRE_TYPE = 23,  /* a field that has not its own wire type */
+    MENHOTRAC_REFUSED_NUMBER_TOO_LARGE = 24, /* above ten bytes or 32 bits; a bit above 1 */
+    MENHOTRAC_REFUSED_TOO_MANY_SUITES = 25,  /* HELLO with a list of more than 16 entries */
+    MENHOTRAC_REFUSED_WRONG_VERDICT = 41,    /* SC_HELLO or SC_DAT with a verdict above 1 */
+    MENHOTRAC_REFUSED_NULL = 42,             /* menhotrac_call_...: NULL where memory is needed */
+    MENHOTRAC_REFUSED_OVERLAP = 43,          /* menhotrac_call_...: written memory overlaps */
     MENHOTRAC_IGNORED = 100
 };
 
@@ -220,7 +236,7 @@ typedef struct menhotrac_event {
  * out before the next call for this connection, since that call may change the cache.
  */
 typedef struct menhotrac_actions {
-    uint32_t message;        /* enum menhotrac_message: send it to the peer */
+    uint32_t message;        /* enum menhotrac_message_number: send it to the peer */
     uint32_t prover;         /* enum menhotrac_driver_order, to our prover */
     uint32_t verifier;       /* and to our verifier */
     uint32_t h;              /* enum menhotrac_timer_order, to each timer */
@@ -246,6 +262,31 @@ typedef struct menhotrac_choice {
     uint32_t prover;
 } menhotrac_choice;
 
+/* A message as numbers. Where the bytes are refused, all but the refusal is 0. */
+typedef struct menhotrac_message {
+    uint32_t refusal; /* 0, or one of 21 to 25 of enum menhotrac_answer */
+    uint32_t number;  /* enum menhotrac_message_number */
+    uint32_t bit;     /* of a DATA or ACK, else 0 */
+    size_t provers;   /* how many suites of each list of a HELLO, at most 16, else 0 */
+    size_t verifiers;
+    size_t place;     /* where the token or payload lies in the bytes; 0 where there is none */
+    size_t size;      /* and how many bytes it has */
+} menhotrac_message;
+
+/* What the host found of the token in a HELLO or DAT. It is not read for other messages. */
+typedef struct menhotrac_token {
+    uint32_t verdict; /* enum menhotrac_verdict */
+    int64_t expiry;   /* when the token runs out, and the time now: in seconds of one clock */
+    int64_t now;
+} menhotrac_token;
+
+/* The answer to the bytes of a message. */
+typedef struct menhotrac_receipt {
+    uint32_t answer; /* enum menhotrac_answer */
+    size_t place;    /* where the token or payload lies in the bytes; 0 where there is none, */
+                     /* and where the bytes are refused with 21 to 25 */
+} menhotrac_receipt;
+
 /* ---- Layout: a compiler that lays the structs out differently refuses the header ---- */
 
 #if defined(__cplusplus)
@@ -259,9 +300,9 @@ typedef struct menhotrac_choice {
 /* An alignment is an offset after one byte: C99 has no other word for it. */
 #define MENHOTRAC_TYPE(type, size, alignment) \
     struct menhotrac_aligned_##type { char byte; menhotrac_##type value; }; \
-    MENHOTRAC_CHECK(type##_alignment, \
+    MENHOTRAC_CHECK(alignment_of_##type, \
                     offsetof(struct menhotrac_aligned_##type, value) == (alignment)); \
-    MENHOTRAC_CHECK(type##_size, sizeof(menhotrac_##type) == (size))
+    MENHOTRAC_CHECK(size_of_##type, sizeof(menhotrac_##type) == (size))
 
 #define MENHOTRAC_AT(type, field, offset, size) \
     MENHOTRAC_CHECK(type##_##field, offsetof(menhotrac_##type, field) == (offset) \
@@ -316,6 +357,24 @@ MENHOTRAC_AT(choice, verifier, 4, 4);
 MENHOTRAC_AT(choice, prover_found, 8, 4);
 MENHOTRAC_AT(choice, prover, 12, 4);
 
+MENHOTRAC_TYPE(message, 48, 8);
+MENHOTRAC_AT(message, refusal, 0, 4);
+MENHOTRAC_AT(message, number, 4, 4);
+MENHOTRAC_AT(message, bit, 8, 4);
+MENHOTRAC_AT(message, provers, 16, 8);
+MENHOTRAC_AT(message, verifiers, 24, 8);
+MENHOTRAC_AT(message, place, 32, 8);
+MENHOTRAC_AT(message, size, 40, 8);
+
+MENHOTRAC_TYPE(token, 24, 8);
+MENHOTRAC_AT(token, verdict, 0, 4);
+MENHOTRAC_AT(token, expiry, 8, 8);
+MENHOTRAC_AT(token, now, 16, 8);
+
+MENHOTRAC_TYPE(receipt, 16, 8);
+MENHOTRAC_AT(receipt, answer, 0, 4);
+MENHOTRAC_AT(receipt, place, 8, 8);
+
 #undef MENHOTRAC_AT
 #undef MENHOTRAC_TYPE
 #undef MENHOTRAC_CHECK
@@ -353,6 +412,26 @@ MENHOTRAC_ABI uint32_t menhotrac_choose_suites(
     const uint32_t *our_provers, size_t our_provers_len,
     menhotrac_choice *chosen);
 
+/*
+ * Reads one message, which has to be all of the bytes. The suites of a HELLO are written to the two
+ * lists, with zeros behind them; for any other message, and for bytes that are refused, both keep
+ * their entries. Pointers are not tested: menhotrac_call_read does that.
+ */
+MENHOTRAC_ABI menhotrac_message menhotrac_read(const uint8_t *bytes, size_t bytes_len,
+                                               uint32_t provers[MENHOTRAC_MAX_SUITES],
+                                               uint32_t verifiers[MENHOTRAC_MAX_SUITES]);
+
+/*
+ * Reads one message, and then does what menhotrac_step does with the event that the message is: its
+ * token or payload is the payload, and the peer's lists are those of the HELLO. Our lists are read
+ * for a HELLO alone. Pointers are not tested: menhotrac_call_receive does that.
+ */
+MENHOTRAC_ABI menhotrac_receipt menhotrac_receive(
+    menhotrac_connection *connection, const uint8_t *bytes, size_t bytes_len,
+    menhotrac_token token, uint8_t *cache, size_t cache_len, menhotrac_actions *actions,
+    const uint32_t *our_verifiers, size_t our_verifiers_len,
+    const uint32_t *our_provers, size_t our_provers_len);
+
 /* ---- A step with its pointers tested ---- */
 
 /* A suite list. */
@@ -375,7 +454,10 @@ typedef struct menhotrac_call {
     menhotrac_list our_provers;
 } menhotrac_call;
 
-/* What menhotrac_call_step tests: first what a step writes, then what it only reads. */
+/*
+ * What menhotrac_call_step and menhotrac_call_receive test: first what a step writes, then what it
+ * only reads.
+ */
 enum menhotrac_lent {
     MENHOTRAC_LENT_ACTIONS,
     MENHOTRAC_LENT_CONNECTION,
@@ -409,10 +491,13 @@ static inline menhotrac_memory menhotrac_memory_of_list(const menhotrac_list *li
     return menhotrac_memory_of(list->suites, list->len, sizeof *list->suites);
 }
 
-/* Where a call is NULL, nothing of it is lent. */
-static inline void menhotrac_lend(menhotrac_memory *lent, const menhotrac_connection *connection,
-                                  const menhotrac_call *call, const uint8_t *cache,
-                                  size_t cache_len, const menhotrac_actions *actions)
+/*
+ * Where a call is NULL, nothing of it is lent. What the step writes is not const here: a compiler
+ * would take a host's actions for read before they are set.
+ */
+static inline void menhotrac_lend(menhotrac_memory *lent, menhotrac_connection *connection,
+                                  const menhotrac_call *call, uint8_t *cache, size_t cache_len,
+                                  menhotrac_actions *actions)
 {
     const menhotrac_call nothing = MENHOTRAC_ZERO;
     const menhotrac_call *given = call != NULL ? call : &nothing;
@@ -440,31 +525,42 @@ static inline int menhotrac_overlap(menhotrac_memory a, menhotrac_memory b)
 }
 
 /* Whether one of the memories lent overlaps another of them. */
-static inline int menhotrac_overlaps(const menhotrac_memory *lent, size_t one)
+static inline int menhotrac_overlaps(const menhotrac_memory *lent, size_t count, size_t one)
 {
     size_t i;
 
-    for (i = 0; i < MENHOTRAC_LENT_COUNT; i++) {
+    for (i = 0; i < count; i++) {
         if (i != one && menhotrac_overlap(lent[one], lent[i]))
             return 1;
     }
     return 0;
 }
 
-/* The refusal of what is lent, 0 for none. */
-static inline uint32_t menhotrac_lent_refusal(const menhotrac_memory *lent)
+/* The refusal of what is lent, 0 for none. The first `written` memories are written. */
+static inline uint32_t menhotrac_lent_refusal(const menhotrac_memory *lent, size_t count,
+                                              size_t written)
 {
     size_t i;
 
-    for (i = 0; i < MENHOTRAC_LENT_COUNT; i++) {
+    for (i = 0; i < count; i++) {
         if (lent[i].start == NULL && lent[i].size != 0)
             return MENHOTRAC_REFUSED_NULL;
     }
-    for (i = 0; i < MENHOTRAC_LENT_WRITTEN; i++) {
-        if (menhotrac_overlaps(lent, i))
+    for (i = 0; i < written; i++) {
+        if (menhotrac_overlaps(lent, count, i))
             return MENHOTRAC_REFUSED_OVERLAP;
     }
     return MENHOTRAC_HANDLED;
+}
+
+/* Sets the actions of a call so refused to 0, unless they are NULL or overlap. */
+static inline void menhotrac_order_nothing(const menhotrac_memory *lent, menhotrac_actions *actions)
+{
+    const menhotrac_actions none = MENHOTRAC_ZERO;
+
+    if (actions != NULL
+        && !menhotrac_overlaps(lent, MENHOTRAC_LENT_COUNT, MENHOTRAC_LENT_ACTIONS))
+        *actions = none;
 }
 
 /*
@@ -478,12 +574,11 @@ static inline uint32_t menhotrac_call_step(menhotrac_connection *connection,
                                            uint8_t *cache, size_t cache_len,
                                            menhotrac_actions *actions)
 {
-    const menhotrac_actions none = MENHOTRAC_ZERO;
     menhotrac_memory lent[MENHOTRAC_LENT_COUNT];
     uint32_t refusal;
 
     menhotrac_lend(lent, connection, call, cache, cache_len, actions);
-    refusal = menhotrac_lent_refusal(lent);
+    refusal = menhotrac_lent_refusal(lent, MENHOTRAC_LENT_COUNT, MENHOTRAC_LENT_WRITTEN);
     if (refusal == MENHOTRAC_HANDLED)
         return menhotrac_step(connection, call->event, call->payload, call->payload_len,
                               cache, cache_len, actions,
@@ -491,10 +586,101 @@ static inline uint32_t menhotrac_call_step(menhotrac_connection *connection,
                               call->peer_provers.suites, call->peer_provers.len,
                               call->peer_verifiers.suites, call->peer_verifiers.len,
                               call->our_provers.suites, call->our_provers.len);
-    if (actions != NULL && !menhotrac_overlaps(lent, MENHOTRAC_LENT_ACTIONS))
-        *actions = none;
+    menhotrac_order_nothing(lent, actions);
     return refusal;
 }
+
+/* ---- Messages, with the pointers tested ---- */
+
+/* What menhotrac_call_read tests: first what is written. */
+enum menhotrac_read_lent {
+    MENHOTRAC_READ_LENT_PROVERS,
+    MENHOTRAC_READ_LENT_VERIFIERS,
+    MENHOTRAC_READ_LENT_BYTES,
+    MENHOTRAC_READ_LENT_COUNT,
+    MENHOTRAC_READ_LENT_WRITTEN = MENHOTRAC_READ_LENT_BYTES
+};
+
+/*
+ * menhotrac_read with its pointers tested. It refuses with 42 a list that is NULL and NULL bytes
+ * whose length is not 0, and with 43 a list that overlaps the other or the bytes. The lists are
+ * then not written.
+ */
+static inline menhotrac_message menhotrac_call_read(const uint8_t *bytes, size_t bytes_len,
+                                                    uint32_t provers[MENHOTRAC_MAX_SUITES],
+                                                    uint32_t verifiers[MENHOTRAC_MAX_SUITES])
+{
+    menhotrac_message refused = MENHOTRAC_ZERO;
+    menhotrac_memory lent[MENHOTRAC_READ_LENT_COUNT];
+
+    lent[MENHOTRAC_READ_LENT_PROVERS] =
+        menhotrac_memory_of(provers, MENHOTRAC_MAX_SUITES, sizeof *provers);
+    lent[MENHOTRAC_READ_LENT_VERIFIERS] =
+        menhotrac_memory_of(verifiers, MENHOTRAC_MAX_SUITES, sizeof *verifiers);
+    lent[MENHOTRAC_READ_LENT_BYTES] = menhotrac_memory_of(bytes, bytes_len, 1);
+    refused.refusal = menhotrac_lent_refusal(lent, MENHOTRAC_READ_LENT_COUNT,
+                                             MENHOTRAC_READ_LENT_WRITTEN);
+    if (refused.refusal == MENHOTRAC_HANDLED)
+        return menhotrac_read(bytes, bytes_len, provers, verifiers);
+    return refused;
+}
+
+/*
+ * The bytes of a message with what is lent with them. Initialise it, with MENHOTRAC_ZERO or by
+ * naming fields: a token that is left out is one that the host does not accept.
+ */
+typedef struct menhotrac_arrival {
+    const uint8_t *bytes;
+    size_t bytes_len;
+    menhotrac_token token;
+    menhotrac_list our_verifiers;
+    menhotrac_list our_provers;
+} menhotrac_arrival;
+
+/*
+ * As menhotrac_lend, with the arrival in the place of the call and its bytes in that of the
+ * payload. No list of the peer is lent.
+ */
+static inline void menhotrac_lend_arrival(menhotrac_memory *lent, menhotrac_connection *connection,
+                                          const menhotrac_arrival *arrival, uint8_t *cache,
+                                          size_t cache_len, menhotrac_actions *actions)
+{
+    menhotrac_call call = MENHOTRAC_ZERO;
+
+    if (arrival != NULL) {
+        call.payload = arrival->bytes;
+        call.payload_len = arrival->bytes_len;
+        call.our_verifiers = arrival->our_verifiers;
+        call.our_provers = arrival->our_provers;
+    }
+    menhotrac_lend(lent, connection, &call, cache, cache_len, actions);
+    lent[MENHOTRAC_LENT_CALL] = menhotrac_memory_of(arrival, 1, sizeof *arrival);
+}
+
+/*
+ * menhotrac_receive with its pointers tested: refusals 42 and 43 as those of menhotrac_call_step,
+ * with the arrival in the place of the call. The receipt's place is then 0.
+ */
+static inline menhotrac_receipt menhotrac_call_receive(menhotrac_connection *connection,
+                                                       const menhotrac_arrival *arrival,
+                                                       uint8_t *cache, size_t cache_len,
+                                                       menhotrac_actions *actions)
+{
+    menhotrac_receipt refused = MENHOTRAC_ZERO;
+    menhotrac_memory lent[MENHOTRAC_LENT_COUNT];
+
+    menhotrac_lend_arrival(lent, connection, arrival, cache, cache_len, actions);
+    refused.answer = menhotrac_lent_refusal(lent, MENHOTRAC_LENT_COUNT, MENHOTRAC_LENT_WRITTEN);
+    if (refused.answer == MENHOTRAC_HANDLED)
+        return menhotrac_receive(connection, arrival->bytes, arrival->bytes_len, arrival->token,
+                                 cache, cache_len, actions,
+                                 arrival->our_verifiers.suites, arrival->our_verifiers.len,
+                                 arrival->our_provers.suites, arrival->our_provers.len);
+    menhotrac_order_nothing(lent, actions);
+    return refused;
+}
+
+/* ---- Answers and parts ---- */
 
 /* Whether an answer is a refusal. */
 static inline int menhotrac_refused(uint32_t answer)
@@ -505,7 +691,8 @@ static inline int menhotrac_refused(uint32_t answer)
 /*
  * The payload part that actions name: where it starts, and in `len` its length. It lies in the
  * payload lent to the step or in the cache as the step left it, and is no copy. A slice shorter
- * than the actions say gives an empty part. Where the length is 0, the pointer may be NULL.
+ * than the actions say gives an empty part. Where the length is 0, the pointer may be NULL. After
+ * menhotrac_receive the payload is at bytes + place, and bytes_len - place bytes long.
  */
 static inline const uint8_t *menhotrac_part(const menhotrac_actions *actions,
                                             const uint8_t *payload, size_t payload_len,
@@ -554,13 +741,20 @@ static inline const char *menhotrac_answer_name(uint32_t answer)
         "payload too long", "cache too short", "suite list too long", "record not well formed",
         "number of handled events exhausted"
     };
-    static const char *const face[] = {"wrong verdict", "NULL lent", "written memory overlaps"};
+    static const char *const reader[] = {
+        "message ends too soon", "unexpected field", "wrong wire type", "number too large",
+        "too many suites"
+    };
+    static const char *const host[] = {"wrong verdict", "NULL lent", "written memory overlaps"};
 
     if (answer == MENHOTRAC_IGNORED)
         return "ignored";
     if (answer >= MENHOTRAC_REFUSED_WRONG_VERDICT)
-        return menhotrac_name(face, sizeof face / sizeof *face,
+        return menhotrac_name(host, sizeof host / sizeof *host,
                               answer - MENHOTRAC_REFUSED_WRONG_VERDICT);
+    if (answer >= MENHOTRAC_REFUSED_ENDS_TOO_SOON)
+        return menhotrac_name(reader, sizeof reader / sizeof *reader,
+                              answer - MENHOTRAC_REFUSED_ENDS_TOO_SOON);
     return menhotrac_name(step, sizeof step / sizeof *step, answer);
 }
 

@@ -1,10 +1,9 @@
 //! The fresh record, the token's time and the choice of suites, asked alone.
 
 use crate::difference::{Checked, Difference};
-use crate::draw;
 use crate::session::Session;
-use crate::suite_lists::SuiteLists;
-use crate::translate;
+use compare::suite_lists::SuiteLists;
+use compare::{tokens, translate};
 use menhotrac::raw;
 use model::random::Random;
 use model::Record;
@@ -38,7 +37,7 @@ fn ask_fresh() -> Checked<()> {
 }
 
 fn ask_seconds(random: &mut Random) -> Checked<()> {
-    let (expiry, now) = draw::any_times(random);
+    let (expiry, now) = tokens::any_times(random);
     let model = model::seconds_left(expiry, now);
     let product = raw::seconds_left(expiry, now);
     let given = (("expiry", expiry), ("now", now));

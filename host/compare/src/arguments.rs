@@ -1,15 +1,9 @@
 //! What a call gives to both sides besides the record and the cache's bytes.
 
-use crate::suite_lists::SuiteLists;
+use compare::suite_lists::SuiteLists;
 use menhotrac::raw;
-use model::{carries_token, Call, Event, MOST_BYTES};
+use model::{carries_token, Call, Event};
 use std::fmt;
-
-/// Bytes that a cache may be longer than it must.
-pub const SPARE_BYTES: u32 = 64;
-
-/// The longest cache that is given.
-pub const CACHE_ROOM: usize = (MOST_BYTES + SPARE_BYTES) as usize;
 
 #[derive(Clone, Copy)]
 pub struct Arguments<'a> {

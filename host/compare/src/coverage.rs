@@ -1,9 +1,9 @@
 //! What was seen, and what has to be seen.
 
 use crate::arguments::Arguments;
-use crate::spoilt::{self, Spoil};
-use crate::trial::Outcome;
-use compare::seen::{seen, size, summed};
+use compare::outcome::Outcome;
+use compare::seen::{pairs, seen, size, summed, tally};
+use compare::spoilt::{self, Spoil};
 use menhotrac::raw::{HANDLED, IGNORED, WRONG_VERDICT};
 use model::{fault, transitions, Record};
 use std::collections::{BTreeMap, BTreeSet};
@@ -68,10 +68,7 @@ impl Coverage {
             _ => fault(number, record, &call, arguments.cache_len),
         };
         let faults: Vec<u32> = FAULTS.into_iter().filter(present).collect();
-        for (index, &first) in faults.iter().enumerate() {
-            let later = faults[index + 1..].iter();
-            self.pairs.extend(later.map(|&second| (first, second)));
-        }
+        self.pairs.extend(pairs(&faults));
     }
 
     pub fn note_transition(&mut self, state: u32, event: u32, next: u32) {
@@ -87,15 +84,7 @@ impl Coverage {
     }
 
     fn counts(&self) -> String {
-        let mut text = String::new();
-        for (&answer, count) in &self.answers {
-            text += &match answer {
-                HANDLED => format!("handled {count}\n"),
-                IGNORED => format!("ignored {count}\n"),
-                number => format!("refused {number}: {count}\n"),
-            };
-        }
-        text + &format!("asked alone {}\n", self.asked_alone)
+        tally(&self.answers) + &format!("asked alone {}\n", self.asked_alone)
     }
 }
 

@@ -9,11 +9,8 @@ mod arguments;
 mod coverage;
 mod draw;
 mod session;
-mod spoilt;
-mod suite_lists;
 mod trial;
 mod walk;
-mod well_formed;
 mod work;
 
 use compare::program::{run, Program};

@@ -1,6 +1,6 @@
 //! What a reader makes of bytes, in the archive's numbers.
 
-use menhotrac::raw::{self, SuiteEntries, READ};
+use menhotrac::raw::{self, SuiteEntries};
 use model::wire::{Fault, Message, Suites};
 use std::fmt;
 
@@ -40,14 +40,13 @@ impl Reading {
         let mut reading = Reading::before(lists);
         match read {
             Ok(message) => reading.set_message(bytes, message),
-            Err(fault) => reading.message.answer = fault.number(),
+            Err(fault) => reading.message.refusal = fault.number(),
         }
         reading
     }
 
     fn set_message(&mut self, bytes: &[u8], read: &Message) {
-        self.message.answer = READ;
-        self.message.message = read.number();
+        self.message.number = read.number();
         match *read {
             Message::Hello {
                 token,
@@ -72,14 +71,14 @@ impl Reading {
     /// The place is told by addresses, since an empty part has one too.
     fn set_part(&mut self, bytes: &[u8], part: &[u8]) {
         self.message.place = part.as_ptr() as usize - bytes.as_ptr() as usize;
-        self.message.len = part.len();
+        self.message.size = part.len();
     }
 
     fn set_lists(&mut self, provers: &Suites, verifiers: &Suites) {
         self.provers = provers.entries;
         self.verifiers = verifiers.entries;
-        self.message.provers = provers.count as u32;
-        self.message.verifiers = verifiers.count as u32;
+        self.message.provers = provers.count;
+        self.message.verifiers = verifiers.count;
     }
 }
 

@@ -1,6 +1,7 @@
 //! What was seen, held against what has to be seen.
 
-use std::collections::BTreeSet;
+use menhotrac::raw::{HANDLED, IGNORED};
+use std::collections::{BTreeMap, BTreeSet};
 use std::fmt::Debug;
 
 /// What a comparison has shown: of one thread, or of all.
@@ -39,4 +40,22 @@ pub fn seen<T: Ord + Debug>(name: &str, seen: &BTreeSet<T>, wanted: BTreeSet<T>)
         line += &format!("SEEN, BUT CANNOT BE: {surplus:?}\n");
     }
     (line, missing.is_empty() && surplus.is_empty())
+}
+
+/// How often each answer was given, one to a line.
+pub fn tally(answers: &BTreeMap<u32, u64>) -> String {
+    let lines = answers.iter().map(|(&answer, count)| match answer {
+        HANDLED => format!("handled {count}\n"),
+        IGNORED => format!("ignored {count}\n"),
+        number => format!("refused {number}: {count}\n"),
+    });
+    lines.collect()
+}
+
+/// Every pair of the faults that one call has.
+pub fn pairs(faults: &[u32]) -> impl Iterator<Item = (u32, u32)> + '_ {
+    faults.iter().enumerate().flat_map(|(index, &first)| {
+        let later = faults[index + 1..].iter();
+        later.map(move |&second| (first, second))
+    })
 }

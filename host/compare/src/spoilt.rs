@@ -1,7 +1,7 @@
 //! Records that are well formed but for one clause of the paper's list.
 
-use crate::session::Session;
 use crate::well_formed::{self, tag_on, Tag, TAGS};
+use model::random::Random;
 use model::{Record, MOST_BYTES};
 
 /// A way to break one clause, and only that.
@@ -75,36 +75,36 @@ impl Spoil {
     }
 
     /// A random record with this clause broken.
-    pub fn record(self, session: &mut Session) -> Record {
+    pub fn record(self, random: &mut Random) -> Record {
         let most = match self {
             Spoil::TagAboveNumber(_) => u32::MAX - 1,
             _ => u32::MAX,
         };
-        let state = session.random.pick(&self.states());
-        let mut record = well_formed::record(&mut session.random, state, most);
-        self.apply(&mut record, session);
+        let state = random.pick(&self.states());
+        let mut record = well_formed::record(random, state, most);
+        self.apply(&mut record, random);
         record
     }
 
-    fn apply(self, record: &mut Record, session: &mut Session) {
+    fn apply(self, record: &mut Record, random: &mut Random) {
         match self {
-            Spoil::StateAboveNine => record.state = session.at_least(10),
-            Spoil::FlagAboveOne => record.ack_flag = session.at_least(2),
-            Spoil::NextSendBitAboveOne => record.next_send_bit = session.at_least(2),
-            Spoil::ExpectedBitAboveOne => record.expected_bit = session.at_least(2),
+            Spoil::StateAboveNine => record.state = random.at_least(10),
+            Spoil::FlagAboveOne => record.ack_flag = random.at_least(2),
+            Spoil::NextSendBitAboveOne => record.next_send_bit = random.at_least(2),
+            Spoil::ExpectedBitAboveOne => record.expected_bit = random.at_least(2),
             Spoil::FlagSet => record.ack_flag = 1,
             Spoil::FlagNotSet => (record.ack_flag, record.cached_len) = (0, 0),
             Spoil::NextSendBitSet => record.next_send_bit = 1,
             Spoil::ExpectedBitSet => record.expected_bit = 1,
-            Spoil::LengthAboveMost => record.cached_len = session.at_least(MOST_BYTES + 1),
-            Spoil::LengthWithoutFlag => record.cached_len = 1 + session.random.below(MOST_BYTES),
-            Spoil::NumberInStateZero => record.number = session.at_least(1),
+            Spoil::LengthAboveMost => record.cached_len = random.at_least(MOST_BYTES + 1),
+            Spoil::LengthWithoutFlag => record.cached_len = 1 + random.below(MOST_BYTES),
+            Spoil::NumberInStateZero => record.number = random.at_least(1),
             Spoil::NumberBelowTags => record.number = 0,
-            Spoil::TagAboveNumber(tag) => *tag.of(record) = session.at_least(record.number + 1),
+            Spoil::TagAboveNumber(tag) => *tag.of(record) = random.at_least(record.number + 1),
             Spoil::TagOff(tag) => *tag.of(record) = 0,
             Spoil::TagOn(tag) => {
                 record.number = record.number.max(1);
-                *tag.of(record) = tag_on(&mut session.random, record.number);
+                *tag.of(record) = tag_on(random, record.number);
             }
         }
     }

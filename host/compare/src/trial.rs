@@ -1,69 +1,29 @@
 //! One call given to the model and to the archive, and everything compared.
 
-use crate::arguments::{Arguments, CACHE_ROOM};
+use crate::arguments::Arguments;
 use crate::difference::{Checked, Difference};
 use crate::translate;
-use menhotrac::raw::{self, Actions, Connection, HANDLED, WRONG_VERDICT};
-use model::{code, refusal, slice, step, Record, Sheet};
+use compare::caches::Caches;
+use compare::outcome::{part, Outcome, RUBBISH};
+use menhotrac::raw::{self, Actions, HANDLED, WRONG_VERDICT};
+use model::{code, refusal, step, Record, Sheet};
 
-const RUBBISH: Actions = Actions {
-    message: 77,
-    prover: 77,
-    verifier: 77,
-    h: 77,
-    hp: 77,
-    hv: 77,
-    dat: 77,
-    ra: 77,
-    ack: 77,
-    dat_seconds: 77,
-    bit: 77,
-    deliver: 77,
-    verifier_suite: 77,
-    prover_suite: 77,
-    payload_slice: 77,
-    payload_len: 77,
-};
-
-/// What one side made of a call, in the archive's numbers.
-#[derive(Clone, Copy, Debug, PartialEq, Eq)]
-pub struct Outcome {
-    pub answer: u32,
-    pub connection: Connection,
-    pub actions: Actions,
-}
-
-/// The two sides' caches, and what both have to hold.
+/// The two sides.
 pub struct Sides {
-    model: Vec<u8>,
-    product: Vec<u8>,
-    wanted: Vec<u8>,
-}
-
-/// The bytes a sheet names, taken as a host would; none if the slice is shorter.
-pub fn part<'a>(actions: &Actions, payload: &'a [u8], cache: &'a [u8]) -> Option<&'a [u8]> {
-    let whole = match actions.payload_slice {
-        slice::PAYLOAD => payload,
-        slice::CACHE => cache,
-        _ => &[],
-    };
-    whole.get(..actions.payload_len as usize)
+    caches: Caches,
 }
 
 impl Sides {
     /// Caches that begin with the first of these bytes.
     pub fn new(bytes: &[u8]) -> Sides {
-        let cache = bytes[..CACHE_ROOM].to_vec();
         Sides {
-            model: cache.clone(),
-            product: cache.clone(),
-            wanted: cache,
+            caches: Caches::new(bytes),
         }
     }
 
     /// The archive's cache, as long as the call's.
     pub fn cache(&self, arguments: &Arguments) -> &[u8] {
-        &self.product[..arguments.cache_len]
+        &self.caches.product[..arguments.cache_len]
     }
 
     /// Makes the call on both sides. The archive's outcome, and the record after
@@ -82,7 +42,7 @@ impl Sides {
             "the outcomes differ"
         } else if product.answer != HANDLED && !untouched {
             "a call that was not handled changed the record or gave actions"
-        } else if !self.caches_agree() {
+        } else if !self.caches.agree() {
             "a cache does not hold what it should"
         } else if !self.parts_agree(arguments, &product.actions, &sheet) {
             "the payload part is not within its slice, or differs"
@@ -101,7 +61,7 @@ impl Sides {
         let (answer, after, sheet) = if interface_refuses {
             (WRONG_VERDICT, *record, Sheet::default())
         } else {
-            let cache = &mut self.model[..arguments.cache_len];
+            let cache = &mut self.caches.model[..arguments.cache_len];
             let (answer, after, sheet) = step(record, &call, cache);
             (translate::answer(answer), after, sheet)
         };
@@ -122,7 +82,7 @@ impl Sides {
             &arguments.event,
             arguments.payload,
             &translate::lists(&arguments.suites.lists()),
-            &mut self.product[..arguments.cache_len],
+            &mut self.caches.product[..arguments.cache_len],
             &mut actions,
         );
         Outcome {
@@ -135,17 +95,12 @@ impl Sides {
     /// "Event 2 alone writes the cache."
     fn write_wanted(&mut self, arguments: &Arguments, answer: u32) {
         if answer == HANDLED && arguments.event.code == code::UPPER_SEND_DATA {
-            self.wanted[..arguments.payload.len()].copy_from_slice(arguments.payload);
+            self.caches.wanted[..arguments.payload.len()].copy_from_slice(arguments.payload);
         }
     }
 
-    /// Compares both caches whole, also behind the length they were given with.
-    fn caches_agree(&self) -> bool {
-        self.model == self.wanted && self.product == self.wanted
-    }
-
     fn parts_agree(&self, arguments: &Arguments, actions: &Actions, sheet: &Sheet) -> bool {
-        let model_cache = &self.model[..arguments.cache_len];
+        let model_cache = &self.caches.model[..arguments.cache_len];
         let model_part = model::part(sheet, arguments.payload, model_cache);
         part(actions, arguments.payload, self.cache(arguments)) == Some(model_part)
     }
@@ -158,9 +113,9 @@ impl Sides {
         model: &Outcome,
         product: &Outcome,
     ) -> Box<Difference> {
-        let wrong_at = |cache: &[u8]| (0..CACHE_ROOM).find(|&at| cache[at] != self.wanted[at]);
-        let model = (model, "cache wrong at", wrong_at(&self.model));
-        let product = (product, "cache wrong at", wrong_at(&self.product));
+        let [model_wrong, product_wrong] = self.caches.wrong_at();
+        let model = (model, "cache wrong at", model_wrong);
+        let product = (product, "cache wrong at", product_wrong);
         let given = (record, arguments);
         Difference::new(what, &given, [("model", &model), ("archive", &product)])
     }

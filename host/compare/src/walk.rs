@@ -4,7 +4,8 @@ use crate::arguments::Arguments;
 use crate::difference::{Checked, Difference};
 use crate::draw;
 use crate::session::Session;
-use crate::trial::{part, Outcome, Sides};
+use crate::trial::Sides;
+use compare::outcome::{part, Outcome};
 use menhotrac::raw::{self, HANDLED, IGNORED, WRONG_VERDICT};
 use model::{code, message, Answer, Notes, Predicted, Record};
 
@@ -90,7 +91,7 @@ impl Walk {
         let any = random.below(24);
         match random.below(100) {
             0..=1 => random.pick(&LOCKING),
-            2 => session.at_least(24),
+            2 => random.at_least(24),
             3..=79 if !LOCKING.contains(&any) => any,
             _ => random.pick(FORWARD[self.record.state as usize]),
         }

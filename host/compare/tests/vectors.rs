@@ -19,7 +19,7 @@ fn filled(suites: &[u32]) -> SuiteEntries {
 fn wanted(vector: &Vector, place: usize) -> Reading {
     let mut reading = Reading::before(BEFORE);
     if vector.number > 9 {
-        reading.message.answer = vector.number;
+        reading.message.refusal = vector.number;
         return reading;
     }
     if vector.number == 1 {
@@ -27,13 +27,13 @@ fn wanted(vector: &Vector, place: usize) -> Reading {
         reading.verifiers = filled(&vector.verifiers);
     }
     reading.message = raw::Message {
-        answer: raw::READ,
-        message: vector.number,
+        refusal: raw::NOT_REFUSED,
+        number: vector.number,
         bit: vector.bit,
-        provers: vector.provers.len() as u32,
-        verifiers: vector.verifiers.len() as u32,
+        provers: vector.provers.len(),
+        verifiers: vector.verifiers.len(),
         place,
-        len: vector.part.len(),
+        size: vector.part.len(),
     };
     reading
 }
@@ -42,9 +42,14 @@ fn wanted(vector: &Vector, place: usize) -> Reading {
 fn archive_reads_the_stored_vectors() {
     for vector in vectors::all() {
         let reading = Reading::of_archive(&vector.bytes, BEFORE);
-        let raw::Message { place, len, .. } = reading.message;
+        let raw::Message { place, size, .. } = reading.message;
         assert_eq!(reading, wanted(&vector, place), "{}", vector.name);
-        assert_eq!(vector.bytes[place..][..len], vector.part, "{}", vector.name);
+        assert_eq!(
+            vector.bytes[place..][..size],
+            vector.part,
+            "{}",
+            vector.name
+        );
     }
 }
 

@@ -1,12 +1,13 @@
 //! One end of an IDSCP2 connection between a boot loader and its image store, as a proved state machine.
 //!
-//! The step from event to actions is proved against its definitions in Rattle and linked as an archive; this crate
-//! gives it Rust's types. It allocates nothing, never panics and needs no `std`. Sockets, TLS, running timers,
-//! attestation drivers and the check of a token's signature stay in the host.
+//! The step from event to actions and the reader of messages are proved against their definitions in Rattle and linked
+//! as an archive; this crate gives them Rust's types. It allocates nothing, never panics and needs no `std`. Sockets,
+//! TLS, running timers, attestation drivers and the check of a token's signature stay in the host.
 //!
 //! A host keeps a [`Connection`] and a cache of [`CACHE_LEN`] bytes for each peer. Whatever happens is an [`Event`]:
-//! the host makes one call of [`Connection::step`] and carries out the [`Actions`]. What the peer has sent is read by
-//! [`Received::read`]. "Document 01" in comments is the paper that fixes states, events, refusals and the order sheet.
+//! the host makes one call of [`Connection::step`] and carries out the [`Actions`]. Bytes of the peer go to
+//! [`Connection::receive`], which reads the message and makes the step; [`Received::read`] gives the token that a host
+//! has to check before. "Document 01" in comments is the paper that fixes states, events, refusals and the order sheet.
 //!
 //! # Example
 //!
@@ -112,6 +113,6 @@ pub use received::Received;
 pub use refusal::Refusal;
 pub use state::State;
 pub use suite_list::SuiteList;
-pub use suites::{choose_suites, Choice, Lists, Suites, MAX_LIST_LEN};
+pub use suites::{choose_suites, Choice, Lists, OurLists, Suites, MAX_LIST_LEN};
 pub use tag::{Tag, Tags};
 pub use token::{seconds_left, Token};

@@ -67,6 +67,27 @@ pub struct Lists<'a> {
     pub our_provers: &'a [u32],
 }
 
+/// The suite lists of our side, for a message that may be a hello.
+#[derive(Clone, Copy, Debug, Default, PartialEq, Eq)]
+pub struct OurLists<'a> {
+    /// The suites that our verifier knows, the preferred one first.
+    pub verifiers: &'a [u32],
+    /// The suites that our prover knows.
+    pub provers: &'a [u32],
+}
+
+/// What the host found of the token in a HELLO or DAT. It is not read for other messages.
+#[repr(C)]
+#[derive(Clone, Copy, Debug, Default, PartialEq, Eq)]
+pub struct Token {
+    /// 0 no, 1 yes; any other number is refused with `WRONG_VERDICT`.
+    pub verdict: u32,
+    /// When the token expires, in seconds.
+    pub expiry: i64,
+    /// The time now, in seconds.
+    pub now: i64,
+}
+
 /// What the host is to do: document 01's order sheet.
 #[repr(C)]
 #[derive(Clone, Copy, Debug, Default, PartialEq, Eq)]
@@ -120,31 +141,41 @@ pub struct Choice {
     pub prover: u32,
 }
 
-/// What was read from the peer's bytes. All but the answer is 0 where the bytes are refused.
+/// What was read from the peer's bytes. All but the refusal is 0 where they are refused.
 #[repr(C)]
 #[derive(Clone, Copy, Debug, Default, PartialEq, Eq)]
 pub struct Message {
-    /// `READ`, or the refusal, as [`ReadRefusal`](crate::ReadRefusal) numbers it.
-    pub answer: u32,
+    /// `NOT_REFUSED`, or the refusal, as [`ReadRefusal`](crate::ReadRefusal) numbers it.
+    pub refusal: u32,
     /// 1 to 9, as [`Message`](crate::Message) numbers it.
-    pub message: u32,
+    pub number: u32,
     /// The bit of a DATA or ACK, else 0.
     pub bit: u32,
     /// How many suites a HELLO names for the peer's prover, else 0.
-    pub provers: u32,
+    pub provers: usize,
     /// How many suites a HELLO names for the peer's verifier, else 0.
-    pub verifiers: u32,
+    pub verifiers: usize,
     /// Where the token or payload begins in the bytes; 0 where there is none.
     pub place: usize,
     /// The length of the token or payload.
-    pub len: usize,
+    pub size: usize,
+}
+
+/// The answer to the bytes of a message.
+#[repr(C)]
+#[derive(Clone, Copy, Debug, Default, PartialEq, Eq)]
+pub struct Receipt {
+    /// As of a step; also the reader's refusal, as [`ReadRefusal`](crate::ReadRefusal) numbers it.
+    pub answer: u32,
+    /// Where the token or payload begins in the bytes; 0 where there is none, or where the reader refused the bytes.
+    pub place: usize,
 }
 
 /// Room for a suite list.
 pub type SuiteEntries = [u32; MAX_LIST_LEN];
 
-/// The answer to bytes that are a message.
-pub const READ: u32 = 0;
+/// The refusal of bytes that are a message: none.
+pub const NOT_REFUSED: u32 = 0;
 /// The answer to a handled call.
 pub const HANDLED: u32 = 0;
 /// The refusal of a verdict that is neither 0 nor 1. The numbers from 1 to 8 are document 01's refusals.
@@ -193,9 +224,23 @@ extern "C" {
         provers: *mut SuiteEntries,
         verifiers: *mut SuiteEntries,
     ) -> Message;
+
+    fn menhotrac_receive(
+        connection: *mut Connection,
+        bytes: *const u8,
+        bytes_len: usize,
+        token: Token,
+        cache: *mut u8,
+        cache_len: usize,
+        actions: *mut Actions,
+        our_verifiers: *const u32,
+        our_verifiers_len: usize,
+        our_provers: *const u32,
+        our_provers_len: usize,
+    ) -> Receipt;
 }
 
-// The archive takes record and actions as 12 and 16 numbers, and event and message in C's layout.
+// The archive takes record and actions as 12 and 16 numbers, and the other structs in C's layout.
 const _: () = {
     assert!(size_of::<Connection>() == 12 * 4 && align_of::<Connection>() == 4);
     assert!(offset_of!(Connection, handled) == 5 * 4 && offset_of!(Connection, ack) == 11 * 4);
@@ -203,9 +248,13 @@ const _: () = {
     assert!(offset_of!(Actions, deliver) == 11 * 4 && offset_of!(Actions, payload_len) == 15 * 4);
     assert!(size_of::<Event>() == 40 && align_of::<Event>() == 8);
     assert!(offset_of!(Event, verdict) == 16 && offset_of!(Event, expiry) == 24);
-    assert!(size_of::<Message>() == 40 && align_of::<Message>() == 8);
-    assert!(offset_of!(Message, verifiers) == 4 * 4);
-    assert!(offset_of!(Message, place) == 24 && offset_of!(Message, len) == 32);
+    assert!(size_of::<Token>() == 24 && align_of::<Token>() == 8);
+    assert!(offset_of!(Token, expiry) == 8 && offset_of!(Token, now) == 16);
+    assert!(size_of::<Message>() == 48 && align_of::<Message>() == 8);
+    assert!(offset_of!(Message, bit) == 8 && offset_of!(Message, provers) == 16);
+    assert!(offset_of!(Message, place) == 32 && offset_of!(Message, size) == 40);
+    assert!(size_of::<Receipt>() == 16 && align_of::<Receipt>() == 8);
+    assert!(offset_of!(Receipt, place) == 8);
     assert!(size_of::<SuiteEntries>() == 16 * 4 && align_of::<SuiteEntries>() == 4);
 };
 
@@ -292,4 +341,34 @@ pub fn read(bytes: &[u8], provers: &mut SuiteEntries, verifiers: &mut SuiteEntri
     // SAFETY: the pointer to the bytes comes with their length, the other two are to whole lists. What is written is
     // lent by `&mut`, so nothing overlaps it. The archive is proved to stay within what it is lent.
     unsafe { menhotrac_read(bytes.as_ptr(), bytes.len(), provers, verifiers) }
+}
+
+/// Reads one message, which has to be all of the bytes, and steps with the event that it is. It changes the record and
+/// writes the actions as `step` does; where the reader refuses the bytes, record and cache stay as they are and nothing
+/// is ordered. A part of the event's payload begins at the receipt's place in the bytes.
+#[inline]
+pub fn receive(
+    connection: &mut Connection,
+    bytes: &[u8],
+    token: &Token,
+    lists: &OurLists,
+    cache: &mut [u8],
+    actions: &mut Actions,
+) -> Receipt {
+    // SAFETY: as in `step`.
+    unsafe {
+        menhotrac_receive(
+            connection,
+            bytes.as_ptr(),
+            bytes.len(),
+            *token,
+            cache.as_mut_ptr(),
+            cache.len(),
+            actions,
+            lists.verifiers.as_ptr(),
+            lists.verifiers.len(),
+            lists.provers.as_ptr(),
+            lists.provers.len(),
+        )
+    }
 }

@@ -10,28 +10,28 @@ numbered! {
     /// number.
     ReadRefusal {
         /// A varint is cut, or a length reaches behind the end of what it is in.
-        Cut = 21,
+        EndsTooSoon = 21,
         /// A field is unknown or comes twice, or there is not just one message.
-        UnknownField = 22,
+        UnexpectedField = 22,
         /// A field does not have the wire type that it should.
         WrongWireType = 23,
         /// A varint has more than ten bytes, or its value more than 32 bits; or a bit is above 1.
-        TooLarge = 24,
+        NumberTooLarge = 24,
         /// A suite list is longer than [`MAX_LIST_LEN`](crate::MAX_LIST_LEN).
-        ListTooLong = 25,
+        TooManySuites = 25,
     }
 }
 
 impl ReadRefusal {
     const fn text(self) -> &'static str {
         match self {
-            Self::Cut => "the message is cut",
-            Self::UnknownField => {
+            Self::EndsTooSoon => "the message ends too soon",
+            Self::UnexpectedField => {
                 "a field is unknown or repeated, or there is not just one message"
             }
             Self::WrongWireType => "a field has the wrong wire type",
-            Self::TooLarge => "a number is too long or too large",
-            Self::ListTooLong => "a suite list has more than 16 entries",
+            Self::NumberTooLarge => "a number is too long or too large",
+            Self::TooManySuites => "a suite list of the message has more than 16 entries",
         }
     }
 }

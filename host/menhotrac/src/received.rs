@@ -7,7 +7,8 @@ use crate::suite_list::SuiteList;
 use crate::suites::MAX_LIST_LEN;
 
 /// A message that has come from the peer. Tokens and payloads are parts of the bytes that were read, not copies. What
-/// the peer has left out is empty, or [`Bit::Zero`].
+/// the peer has left out is empty, or [`Bit::Zero`]. A host reads a message to check its token; the step is made by
+/// [`Connection::receive`](crate::Connection::receive), from the same bytes.
 ///
 /// ```
 /// use menhotrac::{Bit, ReadRefusal, Received};
@@ -58,13 +59,22 @@ impl<'a> Received<'a> {
         let mut provers = [0; MAX_LIST_LEN];
         let mut verifiers = [0; MAX_LIST_LEN];
         let message = raw::read(bytes, &mut provers, &mut verifiers);
-        if message.answer != raw::READ {
-            return Err(refusal(message.answer));
+        if message.refusal != raw::NOT_REFUSED {
+            return Err(refusal(message.refusal));
         }
         let provers = SuiteList::new(provers, message.provers);
         let verifiers = SuiteList::new(verifiers, message.verifiers);
         Self::of(&message, part(&message, bytes), [provers, verifiers])
-            .ok_or(ReadRefusal::UnknownField)
+            .ok_or(ReadRefusal::UnexpectedField)
+    }
+
+    /// The peer's token, which the host is to check; only a HELLO or DAT carries one.
+    #[inline]
+    pub const fn token(&self) -> Option<&'a [u8]> {
+        match *self {
+            Self::Hello { token, .. } | Self::Dat(token) => Some(token),
+            _ => None,
+        }
     }
 
     /// The message; none if its number or bit is out of range, which no archive that belongs to these bindings gives.
@@ -72,7 +82,7 @@ impl<'a> Received<'a> {
     fn of(message: &raw::Message, part: &'a [u8], lists: [SuiteList; 2]) -> Option<Self> {
         let bit = Bit::from_number(message.bit)?;
         let [provers, verifiers] = lists;
-        let received = match message.message {
+        let received = match message.number {
             1 => Self::Hello {
                 token: part,
                 provers,
@@ -96,11 +106,11 @@ impl<'a> Received<'a> {
 #[inline]
 fn part<'a>(message: &raw::Message, bytes: &'a [u8]) -> &'a [u8] {
     let from_place = bytes.get(message.place..).unwrap_or(&[]);
-    from_place.get(..message.len).unwrap_or(&[])
+    from_place.get(..message.size).unwrap_or(&[])
 }
 
 /// The refusal with a number. Any other than 21 to 25 means that archive and bindings do not belong together.
 #[cold]
 fn refusal(number: u32) -> ReadRefusal {
-    ReadRefusal::from_number(number).unwrap_or(ReadRefusal::UnknownField)
+    ReadRefusal::from_number(number).unwrap_or(ReadRefusal::UnexpectedField)
 }

@@ -15,8 +15,7 @@ pub struct SuiteList {
 impl SuiteList {
     /// The first `len` of the entries, or all if there are fewer.
     #[inline]
-    pub(crate) const fn new(entries: raw::SuiteEntries, len: u32) -> Self {
-        let len = len as usize;
+    pub(crate) const fn new(entries: raw::SuiteEntries, len: usize) -> Self {
         Self { entries, len }
     }
 }

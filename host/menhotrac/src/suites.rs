@@ -3,7 +3,7 @@
 use crate::raw;
 use crate::refusal::Refusal;
 
-pub use crate::raw::Lists;
+pub use crate::raw::{Lists, OurLists};
 
 /// The most entries of a suite list.
 pub const MAX_LIST_LEN: usize = 16;

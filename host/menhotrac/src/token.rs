@@ -13,6 +13,17 @@ pub struct Token {
     pub now: i64,
 }
 
+impl Token {
+    #[inline]
+    pub(crate) const fn raw(self) -> raw::Token {
+        raw::Token {
+            verdict: self.verdict as u32,
+            expiry: self.expiry,
+            now: self.now,
+        }
+    }
+}
+
 /// Expiry minus now, worked out exactly and then clamped to -86,400 to 86,400.
 #[inline]
 pub fn seconds_left(expiry: i64, now: i64) -> i64 {

@@ -9,9 +9,11 @@
 //!
 //! [`wire`] reads the peer's messages from bytes. It shares no line with the
 //! library either, but is written to be quick, as the benchmark's other side.
+//! [`arrival`] makes calls of what was read.
 
 #![forbid(unsafe_code)]
 
+pub mod arrival;
 mod call;
 mod notes;
 mod orders;

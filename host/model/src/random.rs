@@ -30,6 +30,16 @@ impl Random {
         ((u64::from(self.next_u32()) * u64::from(bound)) >> 32) as u32
     }
 
+    /// A number from `low` up: mostly next to it, sometimes any.
+    pub fn at_least(&mut self, low: u32) -> u32 {
+        match self.below(4) {
+            0 => low,
+            1 => low.saturating_add(self.below(8)),
+            2 => u32::MAX,
+            _ => self.next_u32().max(low),
+        }
+    }
+
     /// True in `percent` of 100 draws.
     pub fn chance(&mut self, percent: u32) -> bool {
         self.below(100) < percent

@@ -5,7 +5,8 @@ use menhotrac::{
     Tag, Tags, TimerOrder, Timers, CACHE_LEN,
 };
 
-use crate::support::{handled, LISTS, TOKEN};
+use crate::bytes::message;
+use crate::support::{handled, LISTS, OURS, TOKEN};
 
 /// The output of the program `boot`.
 const PRINTED: &str = include_str!("../../../../crates/boot/stdout");
@@ -63,6 +64,31 @@ fn prints_as_the_program_does() {
     let mut lines = String::new();
     for calls in 1..=RUN.len() {
         let connection = after(calls, &mut [0; CACHE_LEN]);
+        let state = connection.state().unwrap().number();
+        lines += &format!("{state} {}\n", connection.handled());
+    }
+    assert_eq!(lines, PRINTED);
+}
+
+/// An event of the run. Those of the peer come as bytes.
+fn happens(connection: &mut Connection, event: Event, cache: &mut [u8]) {
+    match message(event) {
+        Some(bytes) => {
+            let _ = connection.receive(&bytes, Some(TOKEN), OURS, cache);
+        }
+        None => {
+            let _ = connection.step(event, cache);
+        }
+    }
+}
+
+#[test]
+fn prints_the_same_where_messages_are_received() {
+    let mut connection = Connection::fresh();
+    let mut cache = [0; CACHE_LEN];
+    let mut lines = String::new();
+    for event in RUN {
+        happens(&mut connection, event, &mut cache);
         let state = connection.state().unwrap().number();
         lines += &format!("{state} {}\n", connection.handled());
     }

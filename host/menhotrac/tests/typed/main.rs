@@ -2,9 +2,11 @@
 
 mod agreement;
 mod boot_run;
+mod bytes;
 mod locked;
 mod numbers;
 mod parts;
+mod receive;
 mod received;
 mod refusals;
 mod suites;

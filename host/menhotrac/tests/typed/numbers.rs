@@ -87,11 +87,11 @@ fn refusals() {
 #[test]
 fn read_refusals() {
     let cases = [
-        ReadRefusal::Cut,
-        ReadRefusal::UnknownField,
+        ReadRefusal::EndsTooSoon,
+        ReadRefusal::UnexpectedField,
         ReadRefusal::WrongWireType,
-        ReadRefusal::TooLarge,
-        ReadRefusal::ListTooLong,
+        ReadRefusal::NumberTooLarge,
+        ReadRefusal::TooManySuites,
     ];
     assert_numbered!(ReadRefusal, 21, cases);
     for (at, refusal) in cases.into_iter().enumerate() {

@@ -92,35 +92,35 @@ fn part_is_of_the_bytes() {
 fn each_refusal() {
     let seventeen = [b"\x0a\x13\x12\x11", &[1; 17][..]].concat();
     let cases = [
-        (&b"\x4a\x02\x08"[..], ReadRefusal::Cut),
-        (b"", ReadRefusal::UnknownField),
-        (b"\x12\x00\x00", ReadRefusal::UnknownField),
+        (&b"\x4a\x02\x08"[..], ReadRefusal::EndsTooSoon),
+        (b"", ReadRefusal::UnexpectedField),
+        (b"\x12\x00\x00", ReadRefusal::UnexpectedField),
         (b"\x08\x00", ReadRefusal::WrongWireType),
-        (b"\x4a\x02\x08\x02", ReadRefusal::TooLarge),
-        (&seventeen, ReadRefusal::ListTooLong),
+        (b"\x4a\x02\x08\x02", ReadRefusal::NumberTooLarge),
+        (&seventeen, ReadRefusal::TooManySuites),
     ];
     for (bytes, refusal) in cases {
         assert_eq!(Received::read(bytes), Err(refusal), "{bytes:02x?}");
     }
 }
 
-/// Checks one stored vector on both faces.
+/// Checks one stored vector, typed and flat.
 fn agrees(vector: &Vector) {
     let name = &vector.name;
     let (mut provers, mut verifiers) = (MARKED, MARKED);
     let flat = raw::read(&vector.bytes, &mut provers, &mut verifiers);
     let typed = Received::read(&vector.bytes);
-    if flat.message != 1 {
+    if flat.number != 1 {
         assert_eq!((provers, verifiers), (MARKED, MARKED), "{name}");
     }
-    if flat.answer != raw::READ {
-        let refusal = ReadRefusal::from_number(flat.answer).expect("a refusal of the reader");
+    if flat.refusal != raw::NOT_REFUSED {
+        let refusal = ReadRefusal::from_number(flat.refusal).expect("a refusal of the reader");
         assert_eq!(typed, Err(refusal), "{name}");
         return;
     }
     let bit = Bit::from_number(flat.bit).expect("0 or 1");
-    let part = &vector.bytes[flat.place..][..flat.len];
-    let received = match flat.message {
+    let part = &vector.bytes[flat.place..][..flat.size];
+    let received = match flat.number {
         1 => return agrees_on_hello(vector, part, [&provers[..], &verifiers]),
         2 => Received::Close,
         3 => Received::DatExpired,
@@ -146,7 +146,7 @@ fn agrees_on_hello(vector: &Vector, part: &[u8], flat: [&[u32]; 2]) {
 }
 
 #[test]
-fn agrees_with_the_flat_face() {
+fn agrees_with_the_flat_call() {
     for vector in vectors::all() {
         agrees(&vector);
     }

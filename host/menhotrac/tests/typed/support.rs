@@ -1,7 +1,8 @@
 //! Records and events that the tests share.
 
 use menhotrac::{
-    raw, Actions, Answer, Bit, Connection, Event, HandshakeTimer, Lists, Tag, Token, CACHE_LEN,
+    raw, Actions, Answer, Bit, Connection, Event, HandshakeTimer, Lists, OurLists, Tag, Token,
+    CACHE_LEN,
 };
 
 /// The boot run's token: 60 seconds are left.
@@ -17,6 +18,12 @@ pub const LISTS: Lists = Lists {
     peer_provers: &[3, 7],
     peer_verifiers: &[3],
     our_provers: &[3, 7],
+};
+
+/// Those of them that are ours.
+pub const OURS: OurLists = OurLists {
+    verifiers: LISTS.our_verifiers,
+    provers: LISTS.our_provers,
 };
 
 /// A cache in which a byte that is written or moved shows.

@@ -54,6 +54,10 @@ pub struct Suites {
 }
 
 impl Suites {
+    pub fn list(&self) -> &[u32] {
+        &self.entries[..self.count]
+    }
+
     /// Fills a list that is empty from a packed one.
     pub(super) fn fill(&mut self, packed: &[u8]) -> Result<(), Fault> {
         let mut left = Bytes(packed);

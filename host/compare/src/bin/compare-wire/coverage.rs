@@ -1,8 +1,8 @@
 //! What was seen, and what has to be seen.
 
-use crate::written::Order;
 use compare::reading::Reading;
 use compare::seen::{seen, size, summed};
+use compare::wire::written::Order;
 use model::wire::{Fault, Place, What};
 use std::collections::{BTreeMap, BTreeSet};
 
@@ -29,7 +29,7 @@ pub struct Coverage {
     ways: BTreeSet<Way>,
     orders: BTreeSet<(u32, Order)>,
     /// Counts of provers and of verifiers.
-    counts: [BTreeSet<u32>; 2],
+    counts: [BTreeSet<usize>; 2],
 }
 
 impl Coverage {
@@ -42,8 +42,8 @@ impl Coverage {
     /// Notes what both readers read.
     pub fn note_message(&mut self, reading: &Reading) {
         let message = &reading.message;
-        *self.messages.entry(message.message).or_default() += 1;
-        if message.message == 1 {
+        *self.messages.entry(message.number).or_default() += 1;
+        if message.number == 1 {
             self.counts[0].insert(message.provers);
             self.counts[1].insert(message.verifiers);
         }

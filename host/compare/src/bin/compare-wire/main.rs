@@ -4,13 +4,9 @@
 #![forbid(unsafe_code)]
 
 mod coverage;
-mod cuts;
-mod damage;
-mod inputs;
-mod pen;
+mod session;
 mod trial;
 mod work;
-mod written;
 
 use compare::program::{run, Program};
 use std::process::ExitCode;

@@ -1,7 +1,7 @@
 //! Random messages, and what is to be read from them if nothing is odd.
 
-use crate::pen::{Pen, DELIMITED, VARINT};
-use compare::reading::Reading;
+use super::pen::{Pen, DELIMITED, VARINT};
+use crate::reading::Reading;
 use menhotrac::raw::SuiteEntries;
 
 /// The fields in the order in which they stand, then zeros. There is room for
@@ -51,7 +51,7 @@ struct Draft<'a> {
 
 /// Writes a message, maybe with odd elements. The lists are those that a reader
 /// is to be lent.
-pub fn message(pen: &mut Pen, pool: &[u8], lists: [SuiteEntries; 2]) -> Written {
+pub(super) fn message(pen: &mut Pen, pool: &[u8], lists: [SuiteEntries; 2]) -> Written {
     let number = pen.random.pick(&[1, 1, 1, 2, 3, 4, 5, 6, 7, 8, 8, 9, 9]);
     let order = draw_order(pen, number);
     let before = if number == 1 {
@@ -65,7 +65,7 @@ pub fn message(pen: &mut Pen, pool: &[u8], lists: [SuiteEntries; 2]) -> Written 
         inner: Vec::new(),
         reading: Reading::before(before),
     };
-    draft.reading.message.message = number;
+    draft.reading.message.number = number;
     for field in order.into_iter().filter(|&field| field != 0) {
         draft.field(number, field);
     }
@@ -125,7 +125,7 @@ impl Draft<'_> {
         let first = random.below(self.pool.len() as u32 - len) as usize;
         self.pen.length(&mut self.inner, len as usize);
         self.reading.message.place = self.inner.len();
-        self.reading.message.len = len as usize;
+        self.reading.message.size = len as usize;
         let part = &self.pool[first..][..len as usize];
         self.inner.extend_from_slice(part);
     }
@@ -133,8 +133,8 @@ impl Draft<'_> {
     fn list(&mut self, field: u32) {
         let mut list = Vec::new();
         let mut suites = SuiteEntries::default();
-        let count = self.pen.random.below(MOST_SUITES as u32 + 1);
-        for suite in &mut suites[..count as usize] {
+        let count = self.pen.random.below(MOST_SUITES as u32 + 1) as usize;
+        for suite in &mut suites[..count] {
             *suite = self.pen.any_width();
             self.entry(&mut list, *suite);
         }
@@ -161,8 +161,8 @@ impl Draft<'_> {
 
     /// Fills the list up, and adds entries that are too many; the first of these
     /// may be odd.
-    fn lengthen(&mut self, list: &mut Vec<u8>, count: u32) {
-        for _ in count..MOST_SUITES as u32 {
+    fn lengthen(&mut self, list: &mut Vec<u8>, count: usize) {
+        for _ in count..MOST_SUITES {
             self.pen.varint(list, 0);
         }
         let suite = self.pen.any_width();
@@ -177,7 +177,7 @@ impl Draft<'_> {
     /// The whole message, with the part's place in all of its bytes.
     fn wrapped(mut self, order: Order) -> Written {
         let mut bytes = Vec::new();
-        let number = self.reading.message.message;
+        let number = self.reading.message.number;
         self.pen.key(&mut bytes, number, DELIMITED);
         self.pen.length(&mut bytes, self.inner.len());
         let inner = bytes.len();

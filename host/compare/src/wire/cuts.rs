@@ -1,7 +1,7 @@
 //! Messages cut at every place, one after another.
 
-use crate::pen::{Pen, DELIMITED};
-use crate::written::{self, Written};
+use super::pen::{Pen, DELIMITED};
+use super::written::{self, Written};
 
 /// The longest message that is cut; of a longer one most cuts are alike.
 const LONGEST: usize = 300;
@@ -44,7 +44,7 @@ impl Cuts {
         while self.at == self.bytes.len() {
             let written = message(pen, pool);
             self.bytes = written.bytes[written.inner..].to_vec();
-            self.number = written.reading.message.message;
+            self.number = written.reading.message.number;
             self.at = 0;
         }
         pen.odd = 0;

@@ -1,0 +1,7 @@
+//! Random messages as bytes, well formed and not.
+
+mod cuts;
+mod damage;
+pub mod inputs;
+mod pen;
+pub mod written;
