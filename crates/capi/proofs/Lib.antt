@@ -1,2 +1,3 @@
 pub mod Host
 mod Part
+mod Read

@@ -20,12 +20,6 @@ use Rattle.protocol.specs.Step.{Result, refusalOf, stepOf, cacheAfter, resultWi
 use Rattle.protocol.specs.declared.Answer.the-variants.{Refused}
 use Rattle.protocol.specs.declared.Actions.{Actions}
 use Rattle.protocol.specs.declared.Outcome.{Outcome}
-use Rattle.inbound.specs.Arrival.{alsoOf}
-use Rattle.inbound.specs.Received.{Given, callFrom, received, receivedAs}
-use Rattle.wire.specs.Fault.{Reading, readAs}
-use Rattle.wire.specs.Fault as reading
-use Rattle.wire.specs.Message.{Message, readingOf}
-use Rattle.capi.specs.Arrived.{payloadIn, payloadOf}
 use Rattle.capi.specs.Part.{sliceBy, Within, partIn}
 use Rattle.protocol.proofs.Blocks.{front-of}
 use Rattle.protocol.proofs.Moved.{ordered}
@@ -111,15 +105,3 @@ taken also connection call cache slots after s k =
       subst⁻¹ (λ (l : List ℕ). Within l (call .payload) after) s (subst⁻¹ (λ (l : List ℕ). Within (slotsOf (result .outcome .actions)) (call .payload) l) k fits),
       (λ i. partIn (s i) (call .payload) (k i)) ∙ part-is (result .outcome .actions) (call .payload) (result .cache) fits,
     )
-
--- The same of a message that arrived: its event's payload is a part of the bytes.
-pub received-taken : (connection : Connection) (bytes : List ℕ) (g : Given) (cache slots after : List ℕ)
-    → slots ≡ slotsOf (received connection bytes g cache .outcome .actions) → after ≡ received connection bytes g cache .cache
-    → Within slots (payloadIn bytes) after × (partIn slots (payloadIn bytes) after ≡ received connection bytes g cache .part)
-unfolding received partOf
-received-taken connection bytes g cache slots after = by-reading (readingOf bytes)
-  where
-    by-reading : (r : Reading Message) → slots ≡ slotsOf (receivedAs connection r bytes g cache .outcome .actions) → after ≡ receivedAs connection r bytes g cache .cache
-        → Within slots (payloadOf bytes r) after × (partIn slots (payloadOf bytes r) after ≡ receivedAs connection r bytes g cache .part)
-    by-reading (readAs m) s k = taken (alsoOf (m .number) (g .tokenRefusal)) connection (callFrom m bytes g) cache slots after s k
-    by-reading (reading.refused number) s k = (subst⁻¹ (λ (l : List ℕ). Within l [] after) s (omega arith), λ i. partIn (s i) [] (k i))

@@ -5,9 +5,7 @@ use mathlib.Core.List.{[], _∷_}
 use lib.Dec.{eqb, ltb}
 use Rattle.table.specs.Sets.{isIn}
 use Rattle.event.specs.declared.Event.{Event}
-use Rattle.inbound.specs.declared.Token.{Token}
 use Rattle.capi.specs.declared.FlatEvent.{FlatEvent}
-use Rattle.capi.specs.declared.FlatToken.{FlatToken}
 
 -- The refusal of a verdict that is neither 0 nor 1.
 abbrev pub refusedVerdict : ℕ
@@ -32,10 +30,3 @@ eventOf flat = record {
   expiry = flat .expiry;
   now = flat .now;
 }
-
--- The same of a message that arrived: what the host found of its token.
-abbrev pub tokenOf : FlatToken → Token
-tokenOf flat = record { verdict = eqb (flat .verdict) 1; expiry = flat .expiry; now = flat .now }
-
-abbrev pub verdictRefusal : FlatToken → ℕ
-verdictRefusal flat = cond (ltb 1 (flat .verdict)) refusedVerdict 0

@@ -3,17 +3,19 @@
 // Record, actions and choice are lent as numbers in a fixed order; the header `menhotrac.h` names them. The host owns
 // all memory, and the library keeps none of it.
 ghost use mathlib.Core.Path.{_≡_};
+ghost use Prim.Native.Nat.{_+_, _≤_};
+ghost use lib.ListN.{length};
 ghost use Rattle.capi.specs.Choice.{chosenOf};
-ghost use Rattle.capi.specs.Arrived.{arrived, payloadIn};
+ghost use Rattle.capi.specs.Arrived.{eventIn};
 ghost use Rattle.capi.specs.Part.{Within, partIn};
 ghost use Rattle.capi.specs.Returned.{returned};
-ghost use Rattle.capi.specs.Verdict.{eventOf, refusedAs, tokenOf, verdictRefusal, wrongVerdict};
-ghost use Rattle.inbound.specs.Received.{placeIn};
+ghost use Rattle.capi.specs.Verdict.{eventOf, refusedAs, wrongVerdict};
+ghost use Rattle.inbound.specs.Arrival.{codeOf};
 ghost use Rattle.flat.specs.Flat.{numbersOf, recordIn};
 ghost use Rattle.record.specs.WellFormed as spec;
 ghost use Rattle.suites.specs.Choice.{choice};
 ghost use Rattle.token.specs.SecondsLeft.{secondsLeft};
-ghost use Rattle.wire.specs.Flat.{flatIn};
+ghost use Rattle.wire.specs.Flat.{flatIn, readingBy};
 ghost use Rattle.wire.specs.Message.{readingOf};
 ghost use Rattle.wire.specs.Numbers.{proversAfter, verifiersAfter};
 
@@ -29,8 +31,7 @@ use connection::fresh;
 use connection::refusals;
 use connection::step_flat;
 use flat::numbers_of;
-use inbound::Token;
-use inbound::receive;
+use inbound::code_of;
 use suites::choose;
 use token::seconds_left;
 use wire::FlatMessage;
@@ -84,7 +85,7 @@ fn refused_as(flat: FlatEvent) -> u32
     }
 }
 
-// What a host found of a token: `Token` with the verdict as a number.
+// What a host found of a token, with its verdict as a number.
 #[repr(C)]
 pub struct FlatToken {
     pub verdict: u32,
@@ -92,31 +93,18 @@ pub struct FlatToken {
     pub now: i64,
 }
 
-// The answer to a message that arrived, and where its token or payload lies in the bytes.
-#[repr(C)]
-pub struct FlatReceipt {
-    pub answer: u32,
-    pub place: usize,
-}
-
-fn token_of(found: FlatToken) -> Token
-    ensures { λ r. ⌜ r ≡ tokenOf found ⌝ }
+fn event_in(code: u32, bit: u32, token: FlatToken) -> FlatEvent
+    ensures { λ r. ⌜ r ≡ eventIn code bit token ⌝ }
 {
-    Token {
-        verdict: found.verdict == YES,
-        expiry: found.expiry,
-        now: found.now,
+    FlatEvent {
+        code,
+        tag: 0,
+        timer: 0,
+        bit,
+        verdict: token.verdict,
+        expiry: token.expiry,
+        now: token.now,
     }
-}
-
-// The interface's own refusal of a message with a token, 0 for none.
-fn verdict_refusal(found: FlatToken) -> u32
-    ensures { λ r. ⌜ r ≡ verdictRefusal found ⌝ }
-{
-    if found.verdict > YES {
-        return WRONG_VERDICT;
-    }
-    refusals::NONE
 }
 
 // The record of a new connection.
@@ -188,7 +176,8 @@ pub extern "C" fn menhotrac_step(
     number_of(answer)
 }
 
-// Reads one message. A hello's suites are written to the two lists, followed by zeros.
+// Reads one message. A hello's suites are written to the two lists, followed by zeros; for any other message, and for bytes
+// that are refused, both keep their entries.
 #[no_mangle]
 pub extern "C" fn menhotrac_read(
     bytes: &[u8],
@@ -198,43 +187,17 @@ pub extern "C" fn menhotrac_read(
     ensures { λ r. ⌜ r ≡ flatIn (readingOf (now (bytes .entry))) ⌝ }
     ensures { λ _. ⌜ now (provers .exit) ≡ proversAfter (readingOf (now (bytes .entry))) (now (provers .entry)) ⌝ }
     ensures { λ _. ⌜ now (verifiers .exit) ≡ verifiersAfter (readingOf (now (bytes .entry))) (now (verifiers .entry)) ⌝ }
+    ensures { λ r. ⌜ readingBy r (now (provers .exit)) (now (verifiers .exit)) ≡ readingOf (now (bytes .entry)) ⌝ }
+    ensures { λ r. ⌜ (r .provers ≤ 16) × (r .verifiers ≤ 16) ⌝ }
+    ensures { λ r. ⌜ r .place + r .size ≤ length (now (bytes .entry)) ⌝ }
 {
     read_flat(bytes, provers, verifiers)
 }
 
-// Reads one message and steps with the event that it is. The payload part of the event lies in the bytes, from the place
-// that the receipt names.
+// The event that a message is, by its number and bit, with what the host found of the token.
 #[no_mangle]
-pub extern "C" fn menhotrac_receive(
-    connection: &mut [u32; 12],
-    bytes: &[u8],
-    token: FlatToken,
-    cache: &mut [u8],
-    actions: &mut [u32; 16],
-    our_verifiers: &[u32],
-    our_provers: &[u32],
-) -> FlatReceipt
-    ensures { λ r. ⌜ r .answer ≡ arrived (now (connection .entry)) (now (bytes .entry)) token (now (cache .entry)) (now («our_verifiers» .entry)) (now («our_provers» .entry)) .answer ⌝ }
-    ensures { λ _. ⌜ recordIn (now (connection .exit)) ≡ arrived (now (connection .entry)) (now (bytes .entry)) token (now (cache .entry)) (now («our_verifiers» .entry)) (now («our_provers» .entry)) .connection ⌝ }
-    ensures { λ _. ⌜ now (actions .exit) ≡ arrived (now (connection .entry)) (now (bytes .entry)) token (now (cache .entry)) (now («our_verifiers» .entry)) (now («our_provers» .entry)) .actions ⌝ }
-    ensures { λ _. ⌜ now (cache .exit) ≡ arrived (now (connection .entry)) (now (bytes .entry)) token (now (cache .entry)) (now («our_verifiers» .entry)) (now («our_provers» .entry)) .cache ⌝ }
-    ensures { λ r. ⌜ r .place ≡ placeIn (readingOf (now (bytes .entry))) ⌝ }
-    ensures { λ _. ⌜ Within (now (actions .exit)) (payloadIn (now (bytes .entry))) (now (cache .exit)) ⌝ }
-    ensures { λ _. ⌜ partIn (now (actions .exit)) (payloadIn (now (bytes .entry))) (now (cache .exit)) ≡ arrived (now (connection .entry)) (now (bytes .entry)) token (now (cache .entry)) (now («our_verifiers» .entry)) (now («our_provers» .entry)) .part ⌝ }
+pub extern "C" fn menhotrac_event(number: u32, bit: u32, token: FlatToken) -> FlatEvent
+    ensures { λ r. ⌜ r ≡ eventIn (codeOf number) bit token ⌝ }
 {
-    let receipt = receive(
-        connection,
-        bytes,
-        token_of(token),
-        verdict_refusal(token),
-        our_verifiers,
-        our_provers,
-        cache,
-        actions,
-    );
-    let answer = receipt.answer;
-    FlatReceipt {
-        answer: number_of(answer),
-        place: receipt.place,
-    }
+    event_in(code_of(number), bit, token)
 }

@@ -1,0 +1,15 @@
+-- `capi::menhotrac_event` meets its contract.
+use mathlib.Core.Path.{ap, _∙_}
+use Prim.Native.Nat.{ℕ}
+use borrow.Author.Needs.{needs}
+use Rattle.capi.specs.Arrived.{eventIn}
+use Rattle.capi.proofs.menhotrac_event.Statement.{statement}
+use Rattle.capi.proofs.menhotrac_event.Tie as tie
+
+pub menhotrac-event-spec : {M : Type 1} → statement M
+menhotrac-event-spec =
+    tie.close
+    (tie.spec
+    (λ c κs. search needs)
+    (λ c κs. search needs)
+    (λ c. let a = c .before .before .args in c .«event-in» .ensures ∙ ap (λ (code : ℕ). eventIn code (a .bit) (a .token)) (c .before .«code-of» .ensures)))
