@@ -422,15 +422,42 @@ MENHOTRAC_ABI menhotrac_message menhotrac_read(const uint8_t *bytes, size_t byte
                                                uint32_t verifiers[MENHOTRAC_MAX_SUITES]);
 
 /*
+ * The event that a message is, by its number and bit, with what the host found of the token. A
+ * number that is no message's gives a code that menhotrac_step refuses with 1.
+ */
+MENHOTRAC_ABI menhotrac_event menhotrac_event_of(uint32_t number, uint32_t bit,
+                                                 menhotrac_token token);
+
+/*
  * Reads one message, and then does what menhotrac_step does with the event that the message is: its
  * token or payload is the payload, and the peer's lists are those of the HELLO. Our lists are read
  * for a HELLO alone. Pointers are not tested: menhotrac_call_receive does that.
  */
-MENHOTRAC_ABI menhotrac_receipt menhotrac_receive(
+static inline menhotrac_receipt menhotrac_receive(
     menhotrac_connection *connection, const uint8_t *bytes, size_t bytes_len,
     menhotrac_token token, uint8_t *cache, size_t cache_len, menhotrac_actions *actions,
     const uint32_t *our_verifiers, size_t our_verifiers_len,
-    const uint32_t *our_provers, size_t our_provers_len);
+    const uint32_t *our_provers, size_t our_provers_len)
+{
+    menhotrac_actions nothing = MENHOTRAC_ZERO;
+    menhotrac_receipt receipt = MENHOTRAC_ZERO;
+    uint32_t provers[MENHOTRAC_MAX_SUITES];
+    uint32_t verifiers[MENHOTRAC_MAX_SUITES];
+    menhotrac_message message = menhotrac_read(bytes, bytes_len, provers, verifiers);
+
+    if (message.refusal != MENHOTRAC_HANDLED) {
+        *actions = nothing;
+        receipt.answer = message.refusal;
+        return receipt;
+    }
+    receipt.place = message.place;
+    receipt.answer = menhotrac_step(connection,
+                                    menhotrac_event_of(message.number, message.bit, token),
+                                    bytes + message.place, message.size, cache, cache_len, actions,
+                                    our_verifiers, our_verifiers_len, provers, message.provers,
+                                    verifiers, message.verifiers, our_provers, our_provers_len);
+    return receipt;
+}
 
 /* ---- A step with its pointers tested ---- */
 

@@ -196,7 +196,7 @@ pub extern "C" fn menhotrac_read(
 
 // The event that a message is, by its number and bit, with what the host found of the token.
 #[no_mangle]
-pub extern "C" fn menhotrac_event(number: u32, bit: u32, token: FlatToken) -> FlatEvent
+pub extern "C" fn menhotrac_event_of(number: u32, bit: u32, token: FlatToken) -> FlatEvent
     ensures { λ r. ⌜ r ≡ eventIn (codeOf number) bit token ⌝ }
 {
     event_in(code_of(number), bit, token)

@@ -225,19 +225,7 @@ extern "C" {
         verifiers: *mut SuiteEntries,
     ) -> Message;
 
-    fn menhotrac_receive(
-        connection: *mut Connection,
-        bytes: *const u8,
-        bytes_len: usize,
-        token: Token,
-        cache: *mut u8,
-        cache_len: usize,
-        actions: *mut Actions,
-        our_verifiers: *const u32,
-        our_verifiers_len: usize,
-        our_provers: *const u32,
-        our_provers_len: usize,
-    ) -> Receipt;
+    fn menhotrac_event_of(number: u32, bit: u32, token: Token) -> Event;
 }
 
 // The archive takes record and actions as 12 and 16 numbers, and the other structs in C's layout.
@@ -355,20 +343,38 @@ pub fn receive(
     cache: &mut [u8],
     actions: &mut Actions,
 ) -> Receipt {
-    // SAFETY: as in `step`.
-    unsafe {
-        menhotrac_receive(
-            connection,
-            bytes.as_ptr(),
-            bytes.len(),
-            *token,
-            cache.as_mut_ptr(),
-            cache.len(),
-            actions,
-            lists.verifiers.as_ptr(),
-            lists.verifiers.len(),
-            lists.provers.as_ptr(),
-            lists.provers.len(),
-        )
+    let (mut provers, mut verifiers) = ([0; MAX_LIST_LEN], [0; MAX_LIST_LEN]);
+    let message = read(bytes, &mut provers, &mut verifiers);
+    if message.refusal != NOT_REFUSED {
+        *actions = Actions::default();
+        return Receipt {
+            answer: message.refusal,
+            place: 0,
+        };
     }
+    let lists = Lists {
+        our_verifiers: lists.verifiers,
+        peer_provers: &provers[..message.provers],
+        peer_verifiers: &verifiers[..message.verifiers],
+        our_provers: lists.provers,
+    };
+    let payload = &bytes[message.place..][..message.size];
+    let answer = step(
+        connection,
+        &event(message.number, message.bit, token),
+        payload,
+        &lists,
+        cache,
+        actions,
+    );
+    Receipt {
+        answer,
+        place: message.place,
+    }
+}
+
+/// The event that a message is, by its number and bit, with what the host found of the token.
+pub fn event(number: u32, bit: u32, token: &Token) -> Event {
+    // SAFETY: all arguments are plain values.
+    unsafe { menhotrac_event_of(number, bit, *token) }
 }

@@ -1,13 +1,13 @@
--- `capi::menhotrac_event` meets its contract.
+-- `capi::menhotrac_event_of` meets its contract.
 use mathlib.Core.Path.{ap, _∙_}
 use Prim.Native.Nat.{ℕ}
 use borrow.Author.Needs.{needs}
 use Rattle.capi.specs.Arrived.{eventIn}
-use Rattle.capi.proofs.menhotrac_event.Statement.{statement}
-use Rattle.capi.proofs.menhotrac_event.Tie as tie
+use Rattle.capi.proofs.menhotrac_event_of.Statement.{statement}
+use Rattle.capi.proofs.menhotrac_event_of.Tie as tie
 
-pub menhotrac-event-spec : {M : Type 1} → statement M
-menhotrac-event-spec =
+pub menhotrac-event-of-spec : {M : Type 1} → statement M
+menhotrac-event-of-spec =
     tie.close
     (tie.spec
     (λ c κs. search needs)
