@@ -2,141 +2,93 @@
 use mathlib.Core.Path.{_≡_, refl, sym, ap, subst, _∙_}
 use mathlib.Core.Bool.{Bool, true, false, cond}
 use mathlib.Core.List.{List, [], _∷_}
-use Prim.Native.Nat.{ℕ, _+_, _-_}
-use Rattle.wire.specs.Varint.{Number, value, fault, numberAt, asBit, bitAt}
+use Prim.Native.Nat.{ℕ, _+_}
 use lib.Dec.{ltb}
-use lib.ListN.{length}
-use Rattle.wire.specs.Layout.{block, faulty, blockAt, afterBlock}
+use Rattle.wire.specs.Varint.{Number, value, fault, numberAt, asBit, bitAt}
+use Rattle.wire.specs.Layout.{block, blockAt, afterBlock}
 use Rattle.wire.specs.Fault.{at, leftmost, readAs, refused, judged}
 use Rattle.wire.specs.Faults.{ofContent, ofList}
-use Rattle.wire.specs.Message.{made, filled, suitesIn}
-use Rattle.wire.specs.Numbers.{refusalNumber, entries, padded}
-use Rattle.wire.specs.Parts.{ContentStep, Holds, Stepped, Kept, Listed, Tidy, TidyStep, afterContent, isList, listed, packedAt, packedOf, seenIn, stage, stepIn, viewOf}
+use Rattle.wire.specs.Message.{made, suitesIn}
+use Rattle.wire.specs.Numbers.{refusalNumber, entries}
+use Rattle.wire.specs.Parts.{Holds, Listed, PackedCounts, listed, packedAt, packedOf}
+use Rattle.wire.specs.Fields.{Fields, fields, marked, proceed, seenIn, stage, stop, withMark}
+use Rattle.wire.specs.Steps.{ContentStep}
 use Rattle.wire.specs.declared.Refusal.{Refusal}
-use Rattle.wire.specs.declared.fields.Fields.{Fields}
-use Rattle.wire.specs.declared.fields.Step.{Step}
-use Rattle.wire.specs.declared.fields.Step.the-variants.{Next, Fault}
 use Rattle.wire.specs.declared.list.Packed.{Packed}
 use Rattle.wire.specs.declared.list.Packed.the-variants as packed
 use Rattle.wire.specs.declared.schema.Form.{Form}
-use Rattle.wire.specs.declared.schema.Form.the-variants.{Unknown, Bytes, Provers, Verifiers, Bit}
+use Rattle.wire.specs.declared.schema.Form.the-variants.{Bytes, Provers, Verifiers, Bit}
+use Rattle.wire.proofs.Forms.{absurd-bool}
 use Rattle.wire.proofs.Order.{same-refused, same-read}
-use Rattle.wire.proofs.Numbers.{absurd-bool}
 
 abbrev is-fault : Number → Type 0
 is-fault (value number next) = ⊥
 is-fault (fault refusal) = Unit {0}
 
-as-number : (n : Number) (bit next : ℕ) → asBit n ≡ value bit next → n ≡ value bit next
-as-number (value number q) bit next e = by-size (ltb 1 number) e
+as-number : (n : Number) (bit after : ℕ) → asBit n ≡ value bit after → n ≡ value bit after
+as-number (value number q) bit after e = by-size (ltb 1 number) e
   where
-    by-size : (t : Bool) → cond t (fault 24) (value number q) ≡ value bit next → value number q ≡ value bit next
+    by-size : (t : Bool) → cond t (fault 24) (value number q) ≡ value bit after → value number q ≡ value bit after
     by-size true e = absurd (subst is-fault e tt)
     by-size false e = e
-as-number (fault refusal) bit next e = absurd (subst is-fault e tt)
+as-number (fault refusal) bit after e = absurd (subst is-fault e tt)
 
-module _ (bytes : List ℕ) (place : ℕ) (fields : Fields) where
+module _ (bytes : List ℕ) (place : ℕ) (f : Fields) (provers verifiers : List ℕ) where
   -- One fault, at the place of the content.
   pub content-faulty : (form : Form) (refusal : Refusal) → ofContent form bytes place ≡ (at place (refusalNumber refusal) ∷ []) →
-      Stepped form bytes place fields (Fault refusal)
+      ContentStep form bytes place (withMark form f) provers verifiers (stop refusal) provers verifiers
   unfolding leftmost
-  content-faulty form refusal e = λ provers verifiers. record {
-    reads = λ number. rw (e);
-    tidies = λ t. tt;
-    keeps = λ k. (refl, refl);
-  }
+  content-faulty form refusal e = record { reads = λ number. rw (e); tidies = λ t. tt }
 
-  -- Fields with other values, and the same marks.
-  abbrev pub holding : (place size bit provers verifiers : ℕ) → Fields
-  holding place size bit provers verifiers = record {
-    first = fields .first;
-    second = fields .second;
-    third = fields .third;
-    place = place;
-    size = size;
-    bit = bit;
-    provers = provers;
-    verifiers = verifiers;
-  }
-
-  pub bytes-read : (start size : ℕ) → blockAt bytes place ≡ block start size → Stepped Bytes bytes place fields
-      (Next (holding start size (fields .bit) (fields .provers) (fields .verifiers)) (start + size))
+  pub bytes-read : (start size : ℕ) → blockAt bytes place ≡ block start size →
+      ContentStep Bytes bytes place (withMark Bytes f) provers verifiers
+      (proceed (fields (marked Bytes (f .read)) start size (f .bit) (f .provers) (f .verifiers)) (start + size)) provers verifiers
   unfolding leftmost
-  bytes-read start size e = λ provers verifiers. record {
-    reads = λ number. rw (e);
-    tidies = λ t. t;
-    keeps = λ k. (refl, refl);
-  }
+  bytes-read start size e = record { reads = λ number. rw (e); tidies = λ t. t }
 
-  pub bit-read : (bit next : ℕ) → bitAt bytes place ≡ value bit next → Stepped Bit bytes place fields
-      (Next (holding (fields .place) (fields .size) bit (fields .provers) (fields .verifiers)) next)
+  pub bit-read : (bit after : ℕ) → bitAt bytes place ≡ value bit after →
+      ContentStep Bit bytes place (withMark Bit f) provers verifiers
+      (proceed (fields (marked Bit (f .read)) (f .place) (f .size) bit (f .provers) (f .verifiers)) after) provers verifiers
   unfolding leftmost
-  bit-read bit next e = λ provers verifiers. record {
-    reads = λ number. rw (e, as-number (numberAt bytes place) bit next e);
-    tidies = λ t. t;
-    keeps = λ k. (refl, refl);
-  }
+  bit-read bit after e = record { reads = λ number. rw (e, as-number (numberAt bytes place) bit after e); tidies = λ t. t }
 
   -- Lists of suites: both forms have the faults of a packed list.
-  module _ (provers verifiers : List ℕ) (before list : List ℕ) (r : Packed) (e : packedOf r list ≡ packedAt bytes place) (kept : Kept r before list) where
-    refused-list : {B : Type 0} (refusal : Refusal) (y : B) → r ≡ packed.Fault refusal → refused (refusalNumber refusal) ≡ judged (ofList bytes place (blockAt bytes place)) y
-    unfolding packedAt
-    refused-list refusal y h =
-        sym (same-refused (ofList bytes place (blockAt bytes place)) (listed (suitesIn bytes (blockAt bytes place)) (afterBlock bytes (blockAt bytes place))) y (refusalNumber refusal)
-        (sym e ∙ ap (λ (p : Packed). packedOf p list) h))
+  module _ (list : List ℕ) (r : Packed) (e : packedOf r list ≡ packedAt bytes place) (holds : PackedCounts r list) where
+    module _ (refusal : Refusal) (h : r ≡ packed.Fault refusal) where
+      refused-list : {B : Type 0} (y : B) → refused (refusalNumber refusal) ≡ judged (ofList bytes place (blockAt bytes place)) y
+      unfolding packedAt
+      refused-list y =
+          sym (same-refused (ofList bytes place (blockAt bytes place)) (listed (suitesIn bytes (blockAt bytes place)) (afterBlock bytes (blockAt bytes place))) y (refusalNumber refusal)
+          (sym e ∙ ap (λ (p : Packed). packedOf p list) h))
 
-    pub provers-faulty : (refusal : Refusal) → r ≡ packed.Fault refusal → ContentStep Provers bytes place fields provers verifiers (Fault refusal) list verifiers
-    provers-faulty refusal h = record {
-      reads = λ number. refused-list refusal _ h;
-      tidies = λ t. tt;
-      keeps = λ k. absurd-bool k;
-    }
+      pub provers-faulty : ContentStep Provers bytes place (withMark Provers f) provers verifiers (stop refusal) list verifiers
+      provers-faulty = record { reads = λ number. refused-list _; tidies = λ t. tt }
 
-    pub verifiers-faulty : (refusal : Refusal) → r ≡ packed.Fault refusal → ContentStep Verifiers bytes place fields provers verifiers (Fault refusal) provers list
-    verifiers-faulty refusal h = record {
-      reads = λ number. refused-list refusal _ h;
-      tidies = λ t. tt;
-      keeps = λ k. absurd-bool k;
-    }
+      pub verifiers-faulty : ContentStep Verifiers bytes place (withMark Verifiers f) provers verifiers (stop refusal) provers list
+      verifiers-faulty = record { reads = λ number. refused-list _; tidies = λ t. tt }
 
     -- The list that was read, and the place after it.
-    module _ (count next : ℕ) (h : r ≡ packed.Suites count next) where
-      read : {B : Type 0} (y : B) → (listed (suitesIn bytes (blockAt bytes place)) (afterBlock bytes (blockAt bytes place)) ≡ listed (entries count list) next)
+    module _ (count after : ℕ) (h : r ≡ packed.Suites count after) where
+      read : {B : Type 0} (y : B) → (listed (suitesIn bytes (blockAt bytes place)) (afterBlock bytes (blockAt bytes place)) ≡ listed (entries count list) after)
           × (judged (ofList bytes place (blockAt bytes place)) y ≡ readAs y)
       unfolding packedAt
       read y = same-read (ofList bytes place (blockAt bytes place)) _ _ y (sym e ∙ ap (λ (p : Packed). packedOf p list) h)
 
       tidy : Holds count list
-      tidy = subst (λ (p : Packed). Kept p before list) h kept
+      tidy = subst (λ (p : Packed). PackedCounts p list) h holds
 
-      pub provers-read : ContentStep Provers bytes place fields provers verifiers
-          (Next (holding (fields .place) (fields .size) (fields .bit) count (fields .verifiers)) next) list verifiers
+      pub provers-read : ContentStep Provers bytes place (withMark Provers f) provers verifiers
+          (proceed (fields (marked Provers (f .read)) (f .place) (f .size) (f .bit) count (f .verifiers)) after) list verifiers
       provers-read = record {
         reads = λ number.
-            sym (read _ .1 ∙ ap (λ (l : Listed). readAs (stage (seenIn fields) (made number (fields .place) (fields .size) (fields .bit) (l .suites) (entries (fields .verifiers) verifiers)) (l .next))) (read place .0));
-        tidies = λ t. (tidy, t .1);
-        keeps = λ k. absurd-bool k;
+            sym (read _ .1 ∙ ap (λ (l : Listed). readAs (stage (seenIn number (marked Provers (f .read))) (made number (f .place) (f .size) (f .bit) (l .suites) (entries (f .verifiers) verifiers)) (l .next))) (read place .0));
+        tidies = λ t. ((tidy, λ k. absurd-bool k), t .1);
       }
 
-      pub verifiers-read : ContentStep Verifiers bytes place fields provers verifiers
-          (Next (holding (fields .place) (fields .size) (fields .bit) (fields .provers) count) next) provers list
+      pub verifiers-read : ContentStep Verifiers bytes place (withMark Verifiers f) provers verifiers
+          (proceed (fields (marked Verifiers (f .read)) (f .place) (f .size) (f .bit) (f .provers) count) after) provers list
       verifiers-read = record {
         reads = λ number.
-            sym (read _ .1 ∙ ap (λ (l : Listed). readAs (stage (seenIn fields) (made number (fields .place) (fields .size) (fields .bit) (entries (fields .provers) provers) (l .suites)) (l .next))) (read place .0));
-        tidies = λ t. (t .0, tidy);
-        keeps = λ k. absurd-bool k;
+            sym (read _ .1 ∙ ap (λ (l : Listed). readAs (stage (seenIn number (marked Verifiers (f .read))) (made number (f .place) (f .size) (f .bit) (entries (f .provers) provers) (l .suites)) (l .next))) (read place .0));
+        tidies = λ t. (t .0, (tidy, λ k. absurd-bool k));
       }
-
-  pub nothing-read : Stepped Unknown bytes place fields (Next fields (length bytes))
-  unfolding leftmost
-  nothing-read = λ provers verifiers. record {
-    reads = λ number. refl;
-    tidies = λ t. t;
-    keeps = λ k. (refl, refl);
-  }
-
-  -- A step over a form is one over the form that it is.
-  pub of-form : {form form′ : Form} {provers verifiers provers′ verifiers′ : List ℕ} {r : Step} → form′ ≡ form →
-      ContentStep form bytes place fields provers verifiers r provers′ verifiers′ →
-      ContentStep form′ bytes place fields provers verifiers r provers′ verifiers′
-  of-form {provers = p} {verifiers = v} {provers′ = p′} {verifiers′ = v′} {r = r} e s = subst (λ (f : Form). ContentStep f bytes place fields p v r p′ v′) (sym e) s

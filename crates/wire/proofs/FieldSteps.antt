@@ -13,13 +13,13 @@ use Rattle.wire.specs.Layout.{Block, block, faulty, blockAt, afterBlock,
 use Rattle.wire.specs.Schema.{isUnknown, wrongType}
 use Rattle.wire.specs.Fault.{Fault, at, given, orElse, leftmost, Reading, readAs, refused, judged}
 use Rattle.wire.specs.Faults.{FieldNumbers, adding, numbered, ofNumber, ofList, ofBytes, ofEntries, ofContent, ofKey, ofField, ofFields}
-use Rattle.wire.specs.Parts.{afterContent}
+use Rattle.wire.specs.Steps.{afterContent}
 use Rattle.wire.specs.declared.schema.Form.{Form}
 use Rattle.wire.specs.declared.schema.Form.the-variants.{Unknown, Bytes, Provers, Verifiers, Bit}
 use Rattle.wire.proofs.Order.{Bounds, Between, widen, joined, not-before}
 use Rattle.wire.proofs.Places.{Stands, stands, BlockStands, block-stands, at-end, one-more}
 use Rattle.wire.proofs.Lists.{entries-between}
-use Rattle.wire.proofs.Numbers.{absurd-bool}
+use Rattle.wire.proofs.Forms.{absurd-bool}
 
 -- The faults of a key: an unexpected field, then a wrong wire type.
 module _ {A : Type 0} (x : A) (place : ℕ) (others : List Fault) where
@@ -45,7 +45,7 @@ or-left true c e = absurd-bool e
 or-left false c e = refl
 
 -- A number that passes the test for being another is that one.
-is-it : (n k : ℕ) → not (eqb n k) ≡ false → n ≡ k
+pub is-it : (n k : ℕ) → not (eqb n k) ≡ false → n ≡ k
 is-it n k e = by-test (eqb n k) refl e
   where
     by-test : (t : Bool) → eqb n k ≡ t → not t ≡ false → n ≡ k

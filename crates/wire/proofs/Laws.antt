@@ -19,7 +19,7 @@ use Rattle.wire.specs.Schema.{formIn}
 use Rattle.wire.specs.Varint.{Number, value, fault, numberAt}
 use Rattle.wire.specs.declared.schema.Form.{Form}
 use Rattle.wire.specs.declared.schema.Form.the-variants.{Unknown, Bytes, Provers, Verifiers, Bit}
-use Rattle.wire.proofs.Numbers.{absurd-bool}
+use Rattle.wire.proofs.Forms.{absurd-bool}
 use Rattle.wire.proofs.Order.{not-before}
 use Rattle.wire.proofs.Places.{BlockStands, block-stands}
 

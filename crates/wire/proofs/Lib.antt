@@ -4,13 +4,12 @@ pub mod Places
 pub mod Forms
 pub mod Lists
 pub mod Contents
-pub mod Numbers
 pub mod FieldSteps
 pub mod OneField
+pub mod FittingKeys
 pub mod Onward
-pub mod Carried
 pub mod Opening
-pub mod Whole
-pub mod Flattened
-pub mod Lengths
+pub mod Answers
+pub mod Carried
 pub mod Laws
+pub mod Lengths

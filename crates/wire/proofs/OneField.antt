@@ -1,77 +1,120 @@
 -- A step over one field, by its key.
 use mathlib.Core.Path.{_≡_, refl, sym, ap, subst, _∙_}
-use mathlib.Core.Bool.{Bool, true, false, _||_}
-use mathlib.Core.List.{List, [], _∷_}
-use Prim.Native.Nat.{ℕ, _≤_}
-use Rattle.wire.specs.Varint.{Number, value, fault, numberAt}
-use Rattle.wire.specs.Layout.{afterKey, fieldNumber, wireType}
+use mathlib.Core.Bool.{Bool, true, false, cond, _||_}
+use mathlib.Core.List.{List}
+use Prim.Native.Nat.{ℕ, _+_, _*_, _≤_}
+use native.Mathlib.Omega.{arith}
+use lib.Dec.{eqb}
+use Rattle.wire.specs.Varint.{value, fault, numberAt}
+use Rattle.wire.specs.Layout.{fieldNumber, wireType}
 use Rattle.wire.specs.Schema.{formIn, isUnknown, wrongType}
-use Rattle.wire.specs.Fault.{Fault, leftmost, judged}
-use Rattle.wire.specs.Faults.{FieldNumbers, adding, ofContent, ofField}
-use Rattle.wire.specs.Message.{filled, withField}
-use Rattle.wire.specs.Numbers.{refusalNumber}
-use Rattle.wire.specs.Parts.{ContentStep, FieldStep, Stage, afterContent, marked, seenIn, stage, stepIn, viewOf}
+use Rattle.wire.specs.Fault.{leftmost, judged}
+use Rattle.wire.specs.Faults.{FieldNumbers, adding, ofContent}
+use Rattle.wire.specs.Message.{filled}
+use Rattle.wire.specs.Numbers.{refusalNumber, padded}
+use Rattle.wire.specs.Fields.{Fields, Marks, Step, Tidy, Unread, formCode, isForm, isRead, marked, misfitOf, seenIn, stage, stop, viewOf, withMark}
+use Rattle.wire.specs.Steps.{ContentStep, FieldStep, afterContent}
 use Rattle.wire.specs.declared.Refusal.{Refusal}
 use Rattle.wire.specs.declared.Refusal.the-variants.{UnexpectedField, WrongWireType}
 use Rattle.wire.specs.declared.schema.Form.{Form}
-use Rattle.wire.specs.declared.fields.Fields.{Fields}
-use Rattle.wire.specs.declared.fields.Step.{Step}
-use Rattle.wire.specs.declared.fields.Step.the-variants as step
-use Rattle.wire.proofs.FieldSteps.{unexpected, wrongly-typed, announced, or-left, content-end}
-use Rattle.wire.proofs.Numbers.{known-number, one-marked, only-hello}
+use Rattle.wire.specs.declared.schema.Form.the-variants.{Unknown, Bytes, Provers, Verifiers, Bit}
+use Rattle.wire.proofs.FieldSteps.{unexpected, wrongly-typed, announced, content-end}
+use Rattle.wire.proofs.Forms.{absurd-bool, known-number, one-form}
 
-module _ (number : ℕ) (bytes : List ℕ) (place : ℕ) (fields : Fields) (provers verifiers : List ℕ) where
+-- A form that is marked has been read, and so have those before it.
+read-marked : (form other : Form) (read : Marks) → isUnknown other ≡ false → isRead form (marked other read) ≡ (isForm form other || isRead form read)
+read-marked Unknown Unknown read u = absurd-bool u
+read-marked Unknown Bytes read u = refl
+read-marked Unknown Provers read u = refl
+read-marked Unknown Verifiers read u = refl
+read-marked Unknown Bit read u = refl
+read-marked Bytes other read u = refl
+read-marked Provers other read u = refl
+read-marked Verifiers other read u = refl
+read-marked Bit other read u = refl
+
+one-marked : (m k : ℕ) (read : Marks) → isUnknown (formIn m k) ≡ false → adding k (seenIn m read) ≡ seenIn m (marked (formIn m k) read)
+one-marked m k read u = λ i n. at-number n i
+  where
+    at-number : (n : ℕ) → (eqb n k || isRead (formIn m n) read) ≡ isRead (formIn m n) (marked (formIn m k) read)
+    at-number n = ap (λ (b : Bool). b || isRead (formIn m n) read) (sym (one-form m n k u)) ∙ sym (read-marked (formIn m n) (formIn m k) read u)
+
+neither : (b c : Bool) → b ≡ false → c ≡ false → (b || c) ≡ false
+neither true c p q = absurd-bool p
+neither false c p q = q
+
+-- A list that has not been read once a form is marked had not been read before.
+unread : (b read : Bool) (list : List ℕ) → Unread read list → Unread (b || read) list
+unread true read list h = λ e. absurd-bool e
+unread false read list h = h
+
+tidy-marked : (form : Form) (f : Fields) (provers verifiers : List ℕ) → Tidy f provers verifiers → Tidy (withMark form f) provers verifiers
+tidy-marked form f provers verifiers t = (
+  (t .0 .0, unread (isForm Provers form) (f .read .provers) provers (t .0 .1)),
+  (t .1 .0, unread (isForm Verifiers form) (f .read .verifiers) verifiers (t .1 .1)),
+)
+
+-- No key that fits: an unknown field, one that has been read, or a wrong wire type.
+abbrev pub Misfit : (message key : ℕ) → Marks → Type 0
+Misfit message key read =
+    let form = formIn message (fieldNumber key) in
+    (isUnknown form || isRead form read) ≡ false → wrongType form (wireType key) ≡ false → ⊥
+
+module _ (number : ℕ) (bytes : List ℕ) (place : ℕ) (f : Fields) (provers verifiers : List ℕ) where
   pub key-faulty : (refusal : Refusal) → numberAt bytes place ≡ fault (refusalNumber refusal) →
-      FieldStep number bytes place fields provers verifiers (step.Fault refusal) provers verifiers
+      FieldStep number bytes place f provers verifiers (stop refusal) provers verifiers
   unfolding leftmost
-  key-faulty refusal e = record { reads = rw (e); tidies = λ t. tt; keeps = λ k. (refl, refl) }
+  key-faulty refusal e = record { reads = rw (e); tidies = λ t. tt }
 
-  module _ (key next : ℕ) (e : numberAt bytes place ≡ value key next) where
+  module _ (key behindKey : ℕ) (e : numberAt bytes place ≡ value key behindKey) where
+    abbrev form : Form
+    form = formIn number (fieldNumber key)
+
     -- An unknown or repeated field.
-    abbrev pub isUnexpected : Bool
-    isUnexpected = isUnknown (formIn number (fieldNumber key)) || seenIn fields (fieldNumber key)
+    abbrev isUnexpected : Bool
+    isUnexpected = isUnknown form || isRead form (f .read)
 
-    abbrev pub isMistyped : Bool
-    isMistyped = wrongType (formIn number (fieldNumber key)) (wireType key)
+    abbrev isMistyped : Bool
+    isMistyped = wrongType form (wireType key)
 
-    pub field-unexpected : isUnexpected ≡ true → FieldStep number bytes place fields provers verifiers (step.Fault UnexpectedField) provers verifiers
-    field-unexpected u = record {
-      reads = rw (e) (sym (unexpected _ place _ isUnexpected isMistyped u));
-      tidies = λ t. tt;
-      keeps = λ k. (refl, refl);
-    }
+    key-misfit : Misfit number key (f .read) → FieldStep number bytes place f provers verifiers (stop (misfitOf number key (f .read))) provers verifiers
+    key-misfit h = by-tests isUnexpected isMistyped refl refl
+      where
+        by-tests : (b c : Bool) → isUnexpected ≡ b → isMistyped ≡ c →
+            FieldStep number bytes place f provers verifiers (stop (cond b UnexpectedField WrongWireType)) provers verifiers
+        by-tests true c u w = record { reads = rw (e) (sym (unexpected _ place _ isUnexpected isMistyped u)); tidies = λ t. tt }
+        by-tests false true u w = record { reads = rw (e) (sym (wrongly-typed _ place _ isUnexpected isMistyped u w)); tidies = λ t. tt }
+        by-tests false false u w = absurd (h u w)
 
-    pub field-mistyped : isUnexpected ≡ false → isMistyped ≡ true → FieldStep number bytes place fields provers verifiers (step.Fault WrongWireType) provers verifiers
-    field-mistyped u w = record {
-      reads = rw (e) (sym (wrongly-typed _ place _ isUnexpected isMistyped u w));
-      tidies = λ t. tt;
-      keeps = λ k. (refl, refl);
-    }
+    -- A key that does not fit.
+    pub key-refused : (read : Marks) → f .read ≡ read → Misfit number key read → (refusal : Refusal) → refusal ≡ misfitOf number key read →
+        FieldStep number bytes place f provers verifiers (stop refusal) provers verifiers
+    key-refused read m h refusal r =
+        subst (λ (q : Refusal). FieldStep number bytes place f provers verifiers (stop q) provers verifiers) (ap (misfitOf number key) m ∙ sym r)
+        (key-misfit (subst (Misfit number key) (sym m) h))
 
-    field-read : isUnexpected ≡ false → isMistyped ≡ false → (r : Step) (provers′ verifiers′ : List ℕ) →
-        ContentStep (formIn number (fieldNumber key)) bytes next (marked (fieldNumber key) fields) provers verifiers r provers′ verifiers′ →
-        FieldStep number bytes place fields provers verifiers r provers′ verifiers′
-    field-read u w r provers′ verifiers′ s =
-        let form = formIn number (fieldNumber key) in
-        let known = known-number number (fieldNumber key) (or-left _ _ u) in
+    key-fits : (form′ : Form) → form ≡ form′ → isUnknown form′ ≡ false → isRead form′ (f .read) ≡ false → wrongType form′ (wireType key) ≡ false →
+        (r : Step) (provers′ verifiers′ : List ℕ) → ContentStep form′ bytes behindKey (withMark form′ f) provers verifiers r provers′ verifiers′ →
+        FieldStep number bytes place f provers verifiers r provers′ verifiers′
+    key-fits form′ p k u w r provers′ verifiers′ s′ =
+        let s = subst (λ (q : Form). ContentStep q bytes behindKey (withMark q f) provers verifiers r provers′ verifiers′) (sym p) s′ in
+        let known = ap isUnknown p ∙ k in
+        let fresh = neither (isUnknown form) (isRead form (f .read)) known (ap (λ (q : Form). isRead q (f .read)) p ∙ u) in
+        let typed = ap (λ (q : Form). wrongType q (wireType key)) p ∙ w in
         record {
           reads =
               s .reads number
-              ∙ ap (λ (f : FieldNumbers). judged (ofContent form bytes next) (stage f (filled form bytes next (viewOf number fields provers verifiers)) (afterContent form bytes next)))
-              (sym (one-marked (fieldNumber key) (known .0) (known .1) fields))
-              ∙ ap (λ (n : ℕ). judged (ofContent form bytes next) (stage (adding (fieldNumber key) (seenIn fields)) (filled form bytes next (viewOf number fields provers verifiers)) n))
-              (content-end bytes form key next (or-left _ _ u) w)
-              ∙ rw (e, announced place (ofContent form bytes next) isUnexpected isMistyped u w);
-          tidies = λ t. s .tidies t;
-          keeps = λ k. s .keeps (only-hello number (fieldNumber key) k);
+              ∙ ap (λ (n : FieldNumbers). judged (ofContent form bytes behindKey) (stage n (filled form bytes behindKey (viewOf number f provers verifiers)) (afterContent form bytes behindKey)))
+              (sym (one-marked number (fieldNumber key) (f .read) known))
+              ∙ ap (λ (n : ℕ). judged (ofContent form bytes behindKey) (stage (adding (fieldNumber key) (seenIn number (f .read))) (filled form bytes behindKey (viewOf number f provers verifiers)) n))
+              (content-end bytes form key behindKey known typed)
+              ∙ rw (e, announced place (ofContent form bytes behindKey) isUnexpected isMistyped fresh typed);
+          tidies = λ t. s .tidies (tidy-marked form f provers verifiers t);
         }
 
-    -- The same of a form and of marks that equal these.
-    pub field-read-as : isUnexpected ≡ false → isMistyped ≡ false → (form : Form) (marks : Fields) (r : Step) (provers′ verifiers′ : List ℕ) →
-        form ≡ formIn number (fieldNumber key) → marks ≡ marked (fieldNumber key) fields →
-        ContentStep form bytes next marks provers verifiers r provers′ verifiers′ →
-        FieldStep number bytes place fields provers verifiers r provers′ verifiers′
-    field-read-as u w form marks r provers′ verifiers′ p q s =
-        field-read u w r provers′ verifiers′
-        (subst (λ (f : Fields). ContentStep (formIn number (fieldNumber key)) bytes next f provers verifiers r provers′ verifiers′) q
-        (subst (λ (f : Form). ContentStep f bytes next marks provers verifiers r provers′ verifiers′) p s))
+    -- A key that fits announces what its field holds.
+    pub key-met : (k : ℕ) → key ≡ k → (form′ : Form) → formIn number (fieldNumber k) ≡ form′ → isUnknown form′ ≡ false → wrongType form′ (wireType k) ≡ false →
+        isRead form′ (f .read) ≡ false → (r : Step) (provers′ verifiers′ : List ℕ) → ContentStep form′ bytes behindKey (withMark form′ f) provers verifiers r provers′ verifiers′ →
+        FieldStep number bytes place f provers verifiers r provers′ verifiers′
+    key-met k q form′ p n w u r provers′ verifiers′ s =
+        key-fits form′ (ap (λ (i : ℕ). formIn number (fieldNumber i)) q ∙ p) n u (ap (λ (i : ℕ). wrongType form′ (wireType i)) q ∙ w) r provers′ verifiers′ s

@@ -14,19 +14,13 @@ use Rattle.wire.specs.Schema.{formIn, outerForm, isUnknown, wrongType}
 use Rattle.wire.specs.Fault.{Fault, at, given, leftmost, Reading, readAs, refused, judged}
 use Rattle.wire.specs.Faults.{noNumbers, ofFields, ofInner, ofOuter, faultsOf}
 use Rattle.wire.specs.Message.{Message, empty, withFields, messageOf, readingOf}
-use Rattle.wire.specs.Numbers.{refusalNumber}
-use Rattle.wire.specs.Parts.{Lent, Located, carried, carriedIn, fieldsOf, innerIn, innerOf, viewOf}
-use Rattle.wire.specs.declared.Refusal.{Refusal}
-use Rattle.wire.specs.declared.Refusal.the-variants.{UnexpectedField}
-use Rattle.wire.specs.declared.fields.Fields.{Fields}
-use Rattle.wire.specs.declared.fields.Inner.{Inner}
-use Rattle.wire.specs.declared.fields.Inner.the-variants as inner
+use Rattle.wire.specs.Steps.{fieldsOf}
+use Rattle.wire.specs.Whole.{Located, innerOf}
 use Rattle.wire.specs.declared.schema.Form.{Form}
 use Rattle.wire.specs.declared.schema.Form.the-variants.{Unknown, Bytes}
-use Rattle.wire.proofs.Carried.{carries-all}
 use Rattle.wire.proofs.FieldSteps.{unexpected, wrongly-typed, announced, fields-between}
-use Rattle.wire.proofs.Numbers.{absurd-bool}
-use Rattle.wire.proofs.Order.{Between, append-refused, append-read, judged-mapped}
+use Rattle.wire.proofs.Forms.{absurd-bool}
+use Rattle.wire.proofs.Order.{Between, append-refused, append-read}
 use Rattle.wire.proofs.Places.{block-within}
 
 pub no-bytes : (bytes : List ℕ) → length bytes ≡ 0 → readingOf bytes ≡ refused 22
@@ -83,16 +77,11 @@ module _ (bytes : List ℕ) (h : length bytes ≡ 0 → ⊥) where
 
       pub outer-located : (start size : ℕ) → blockAt bytes next ≡ block start size → Located (fieldNumber key) start size bytes
       unfolding readingOf innerOf
-      outer-located start size b =
-          let message = take (start + size) bytes in
-          record {
-            within = block-within bytes next start size b .1;
-            known = known;
-            reading =
-                rw (some-bytes bytes h, e, announced 0 inside (isUnknown form || false) (wrongType form (wireType key)) (or-false (isUnknown form) ∙ u) w, b)
-                (ap (λ (m : Message). judged (ofInner (fieldNumber key) bytes next (block start size)) m) (sym (carries-all (fieldNumber key) message (fieldsFrom message start)))
-                ∙ judged-mapped carried (ofInner (fieldNumber key) bytes next (block start size)) (withFields message (fieldsFrom message start) (empty (fieldNumber key))));
-          }
+      outer-located start size b = record {
+        within = block-within bytes next start size b .1;
+        known = known;
+        reading = rw (some-bytes bytes h, e, announced 0 inside (isUnknown form || false) (wrongType form (wireType key)) (or-false (isUnknown form) ∙ u) w, b);
+      }
 
 -- A message in lent bytes, and what follows it.
 module _ (number : ℕ) (bytes : List ℕ) (start size : ℕ) (h : start + size ≤ length bytes) where
@@ -121,7 +110,7 @@ module _ (number : ℕ) (bytes : List ℕ) (start size : ℕ) (h : start + size 
   abbrev whole : Message
   whole = withFields message (fieldsFrom message start) (empty number)
 
-  inner-refused : (refusal : ℕ) → refused refusal ≡ fieldsOf number message start → refused refusal ≡ innerOf number bytes start size
+  pub inner-refused : (refusal : ℕ) → refused refusal ≡ fieldsOf number message start → refused refusal ≡ innerOf number bytes start size
   unfolding fieldsOf innerOf
   inner-refused refusal e =
       sym (append-refused start (start + size) (length bytes) inFields following fields-stand following-stands whole whole refusal (sym e))
@@ -131,35 +120,10 @@ module _ (number : ℕ) (bytes : List ℕ) (start size : ℕ) (h : start + size 
     unfolding fieldsOf
     read = append-read start (start + size) (length bytes) inFields following fields-stand following-stands whole m whole (sym e)
 
-    inner-trailing : start + size < length bytes → refused 22 ≡ innerOf number bytes start size
+    pub inner-trailing : start + size < length bytes → refused 22 ≡ innerOf number bytes start size
     unfolding innerOf leftmost
     inner-trailing end = sym (read .1 ∙ rw (lt-ltb (start + size) (length bytes) end))
 
-    inner-read : length bytes ≤ start + size → readAs m ≡ innerOf number bytes start size
+    pub inner-read : length bytes ≤ start + size → readAs m ≡ innerOf number bytes start size
     unfolding innerOf leftmost
     inner-read end = sym (read .1 ∙ rw (le-ltb (start + size) (length bytes) end) (ap readAs (read .0)))
-
-  -- The same of what `read_fields` answers, with the two lists.
-  module _ (provers verifiers provers′ verifiers′ : List ℕ) (r : Inner)
-      (e : innerIn number r provers′ verifiers′ ≡ fieldsOf number message start) (l : Lent number r provers verifiers provers′ verifiers′) where
-    pub stays-refused : (refusal : Refusal) → r ≡ inner.Fault refusal →
-        (refused (refusalNumber refusal) ≡ innerOf number bytes start size) × Lent number (inner.Fault refusal) provers verifiers provers′ verifiers′
-    stays-refused refusal k = (
-      inner-refused (refusalNumber refusal) (ap (λ (q : Inner). innerIn number q provers′ verifiers′) (sym k) ∙ e),
-      record { tidies = λ f. tt; keeps = l .keeps },
-    )
-
-    module _ (fields : Fields) (k : r ≡ inner.Read fields) where
-      pub then-trailing : start + size < length bytes →
-          (refused 22 ≡ innerOf number bytes start size) × Lent number (inner.Fault UnexpectedField) provers verifiers provers′ verifiers′
-      then-trailing end = (
-        inner-trailing (viewOf number fields provers′ verifiers′) (ap (λ (q : Inner). innerIn number q provers′ verifiers′) (sym k) ∙ e) end,
-        record { tidies = λ f. tt; keeps = l .keeps },
-      )
-
-      pub then-read : length bytes ≤ start + size →
-          (readAs (viewOf number fields provers′ verifiers′) ≡ innerOf number bytes start size) × Lent number (inner.Read fields) provers verifiers provers′ verifiers′
-      then-read end = (
-        inner-read (viewOf number fields provers′ verifiers′) (ap (λ (q : Inner). innerIn number q provers′ verifiers′) (sym k) ∙ e) end,
-        subst (λ (q : Inner). Lent number q provers verifiers provers′ verifiers′) k l,
-      )

@@ -45,7 +45,7 @@ module _ (message : List ℕ) (after : ℕ → ℕ) (start : ℕ) where
       (ap (λ (l : List ℕ). start ∷ l) (pass after (suc start) (after start) (length message - suc start) k))
 
 -- What is said is said by at least one byte, and by bytes that are there.
-abbrev Fits : ℕ → Said → Type 0
+abbrev pub Fits : ℕ → Said → Type 0
 Fits size (says number width) = (1 ≤ width) × (width ≤ size)
 Fits size cut = Unit {0}
 Fits size endless = Unit {0}
@@ -55,7 +55,7 @@ longer low size (says number width) f = (omega arith, omega (arith, f .1))
 longer low size cut f = tt
 longer low size endless f = tt
 
-fits : (n : ℕ) (bytes : List ℕ) → Fits (length bytes) (said n bytes)
+pub fits : (n : ℕ) (bytes : List ℕ) → Fits (length bytes) (said n bytes)
 unfolding said
 fits zero bytes = tt
 fits (suc n) [] = tt

@@ -5,6 +5,9 @@ pub mod Fault
 pub mod Faults
 pub mod Message
 pub mod Numbers
-pub mod Parts
 pub mod Flat
 pub mod Laws
+pub mod Parts
+pub mod Fields
+pub mod Steps
+pub mod Whole

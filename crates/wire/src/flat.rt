@@ -1,11 +1,18 @@
 // A message as numbers, for a caller that cannot take an enum.
 ghost use mathlib.Core.Path.{_≡_};
-ghost use Prim.Native.Nat.{_≤_};
-ghost use Rattle.wire.specs.Flat.{flat, flatIn, flatOf, readingBy};
+ghost use Prim.Native.Nat.{_+_, _≤_};
+ghost use lib.ListN.{length};
+ghost use Rattle.wire.specs.Flat.{Known, flat, flatIn, readingBy};
 ghost use Rattle.wire.specs.Message.{readingOf};
-ghost use Rattle.wire.specs.Numbers.{proversAfter, verifiersAfter};
-use crate::Message;
-use crate::read;
+ghost use Rattle.wire.specs.Numbers.{proversAfter, refusalNumber, verifiersAfter};
+ghost use Rattle.wire.specs.Whole.{Reads, ReadsPlain, innerOf};
+use crate::Refusal;
+use crate::hello::Hello;
+use crate::hello::read_hello;
+use crate::outer::Outer;
+use crate::outer::outer_field;
+use crate::plain::Plain;
+use crate::plain::read_plain;
 use crate::refusal_number;
 use crate::schema;
 
@@ -22,71 +29,105 @@ pub struct FlatMessage {
     pub size: usize,
 }
 
-fn without_lists(number: u32, bit: u32, place: usize, size: usize) -> FlatMessage
-    ensures { λ r. ⌜ r ≡ flat 0 number bit 0 0 place size ⌝ }
+fn refused(refusal: Refusal) -> FlatMessage
+    ensures { λ r. ⌜ r ≡ flat (refusalNumber refusal) 0 0 0 0 0 0 ⌝ }
 {
     FlatMessage {
-        refusal: 0,
-        number,
-        bit,
+        refusal: refusal_number(refusal),
+        number: 0,
+        bit: 0,
         provers: 0,
         verifiers: 0,
-        place,
-        size,
+        place: 0,
+        size: 0,
     }
 }
 
-// The numbers of a message.
-pub fn flatten(message: Message) -> FlatMessage
-    ensures { λ r. ⌜ r ≡ flatOf message ⌝ }
+// A hello in lent bytes. Any byte after it is refused.
+fn hello(
+    bytes: &[u8],
+    start: usize,
+    size: usize,
+    provers: &mut [u32; 16],
+    verifiers: &mut [u32; 16],
+) -> FlatMessage
+    requires { ⌜ start + size ≤ length (now bytes) ⌝ }
+    ensures { λ r. ⌜ Reads r (innerOf 1 (now (bytes .entry)) start size) (now (provers .entry)) (now (verifiers .entry)) (now (provers .exit)) (now (verifiers .exit)) ⌝ }
 {
-    match message {
-        Message::Hello {
+    let end = start + size;
+    let mut peer_provers = [0; 16];
+    let mut peer_verifiers = [0; 16];
+    let read = read_hello(&bytes[..end], start, &mut peer_provers, &mut peer_verifiers);
+    match read {
+        Hello::Fault(refusal) => refused(refusal),
+        Hello::Read {
             token,
-            provers,
-            verifiers,
-        } => FlatMessage {
-            refusal: 0,
-            number: schema::HELLO,
-            bit: 0,
-            provers,
-            verifiers,
-            place: token.place,
-            size: token.size,
-        },
-        Message::Close => without_lists(schema::CLOSE, 0, 0, 0),
-        Message::DatExpired => without_lists(schema::DAT_EXPIRED, 0, 0, 0),
-        Message::Dat(token) => without_lists(schema::DAT, 0, token.place, token.size),
-        Message::ReRa => without_lists(schema::RE_RA, 0, 0, 0),
-        Message::RaProver(payload) => {
-            without_lists(schema::RA_PROVER, 0, payload.place, payload.size)
+            provers: prover_count,
+            verifiers: verifier_count,
+        } => {
+            if end < bytes.len() {
+                return refused(Refusal::UnexpectedField);
+            }
+            *provers = peer_provers;
+            *verifiers = peer_verifiers;
+            FlatMessage {
+                refusal: 0,
+                number: schema::HELLO,
+                bit: 0,
+                provers: prover_count,
+                verifiers: verifier_count,
+                place: token.place,
+                size: token.size,
+            }
         }
-        Message::RaVerifier(payload) => {
-            without_lists(schema::RA_VERIFIER, 0, payload.place, payload.size)
-        }
-        Message::Data { payload, bit } => {
-            without_lists(schema::DATA, bit, payload.place, payload.size)
-        }
-        Message::Ack(bit) => without_lists(schema::ACK, bit, 0, 0),
-        Message::Refused(refusal) => FlatMessage {
-            refusal: refusal_number(refusal),
-            number: 0,
-            bit: 0,
-            provers: 0,
-            verifiers: 0,
-            place: 0,
-            size: 0,
-        },
     }
 }
 
-// Reads one message as numbers.
+// Another message in lent bytes. Any byte after it is refused.
+fn plain(message: u32, bytes: &[u8], start: usize, size: usize) -> FlatMessage
+    requires { ⌜ (2 ≤ message) × (message ≤ 9) ⌝ }
+    requires { ⌜ start + size ≤ length (now bytes) ⌝ }
+    ensures { λ r. ⌜ ReadsPlain r (innerOf message (now (bytes .entry)) start size) ⌝ }
+{
+    let end = start + size;
+    let read = read_plain(message, &bytes[..end], start);
+    match read {
+        Plain::Fault(refusal) => refused(refusal),
+        Plain::Read { part, bit } => {
+            if end < bytes.len() {
+                return refused(Refusal::UnexpectedField);
+            }
+            FlatMessage {
+                refusal: 0,
+                number: message,
+                bit,
+                provers: 0,
+                verifiers: 0,
+                place: part.place,
+                size: part.size,
+            }
+        }
+    }
+}
+
+// Reads one message. The suites of a hello are written to the two lists, followed by zeros; for any other message, and
+// for bytes that are refused, both keep their entries.
 pub fn read_flat(bytes: &[u8], provers: &mut [u32; 16], verifiers: &mut [u32; 16]) -> FlatMessage
     ensures { λ r. ⌜ r ≡ flatIn (readingOf (now (bytes .entry))) ⌝ }
     ensures { λ _. ⌜ now (provers .exit) ≡ proversAfter (readingOf (now (bytes .entry))) (now (provers .entry)) ⌝ }
     ensures { λ _. ⌜ now (verifiers .exit) ≡ verifiersAfter (readingOf (now (bytes .entry))) (now (verifiers .entry)) ⌝ }
     ensures { λ r. ⌜ readingBy r (now (provers .exit)) (now (verifiers .exit)) ≡ readingOf (now (bytes .entry)) ⌝ }
     ensures { λ r. ⌜ (r .provers ≤ 16) × (r .verifiers ≤ 16) ⌝ }
+    ensures { λ r. ⌜ Known r ⌝ }
 {
-    flatten(read(bytes, provers, verifiers))
+    let found = outer_field(bytes);
+    match found {
+        Outer::Fault(refusal) => refused(refusal),
+        Outer::Message(message, start, size) => {
+            if message == schema::HELLO {
+                return hello(bytes, start, size, provers, verifiers);
+            }
+            plain(message, bytes, start, size)
+        }
+    }
 }

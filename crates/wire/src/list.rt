@@ -1,87 +1,69 @@
 // A packed list of suites.
 ghost use mathlib.Core.Path.{_≡_};
-ghost use Rattle.wire.specs.Parts.{Padded, listOf, listFrom, packedOf, packedAt, Kept};
+ghost use mathlib.Core.List.{[]};
+ghost use Rattle.wire.specs.Numbers.{padded};
+ghost use Rattle.wire.specs.Parts.{Counts, PackedCounts, countedIn, listFrom, packedAt, packedOf};
 use crate::Refusal;
 use crate::block::Block;
 use crate::block::block_at;
 use crate::varint::Varint;
-use crate::varint::long_number;
+use crate::varint::entry;
 
 const MAX_ENTRIES: usize = 16;
 
 // How many suites were read.
-pub enum Counted {
+enum Counted {
     Count(usize),
     Fault(Refusal),
 }
 
-// The suites, and then zeros.
-pub struct List {
-    pub counted: Counted,
-    pub entries: [u32; 16],
-}
-
-// A list that was read, with the place after it.
+// The same with the place after the list.
 pub enum Packed {
     Suites(usize, usize),
     Fault(Refusal),
 }
 
-// The entries from `start` to the end of the bytes.
-fn entries(bytes: &[u8], start: usize) -> List
-    ensures { λ r. ⌜ listOf r ≡ listFrom (now (bytes .entry)) start ⌝ }
-    ensures { λ r. ⌜ Padded (r .counted) (r .entries) ⌝ }
+// The entries from `start` to the end of the bytes are written to `suites`, which holds zeros. After a fault it may hold
+// those before it.
+fn entries(bytes: &[u8], start: usize, suites: &mut [u32; 16]) -> Counted
+    requires { ⌜ now suites ≡ padded [] ⌝ }
+    ensures { λ r. ⌜ countedIn r (now (suites .exit)) ≡ listFrom (now (bytes .entry)) start ⌝ }
+    ensures { λ r. ⌜ Counts r (now (suites .exit)) ⌝ }
 {
-    let mut entries = [0; 16];
     let mut count = 0;
     let mut at = start;
     while at < bytes.len() {
-        let entry = long_number(bytes, at);
-        match entry {
-            Varint::Fault(refusal) => {
-                return List {
-                    counted: Counted::Fault(refusal),
-                    entries: entries,
-                };
-            }
+        let read = entry(bytes, at);
+        match read {
+            Varint::Fault(refusal) => return Counted::Fault(refusal),
             Varint::Number(suite, next) => {
                 if count == MAX_ENTRIES {
-                    return List {
-                        counted: Counted::Fault(Refusal::TooManySuites),
-                        entries: entries,
-                    };
+                    return Counted::Fault(Refusal::TooManySuites);
                 }
-                entries[count] = suite;
+                suites[count] = suite;
                 count += 1;
                 at = next;
             }
         }
     }
-    List {
-        counted: Counted::Count(count),
-        entries: entries,
-    }
+    Counted::Count(count)
 }
 
-// The packed list at a place. It is written to `suites` if it shows no fault.
+// The packed list at a place.
 pub fn packed_at(bytes: &[u8], place: usize, suites: &mut [u32; 16]) -> Packed
+    requires { ⌜ now suites ≡ padded [] ⌝ }
     ensures { λ r. ⌜ packedOf r (now (suites .exit)) ≡ packedAt (now (bytes .entry)) place ⌝ }
-    ensures { λ r. ⌜ Kept r (now (suites .entry)) (now (suites .exit)) ⌝ }
+    ensures { λ r. ⌜ PackedCounts r (now (suites .exit)) ⌝ }
 {
     let part = block_at(bytes, place);
     match part {
         Block::Fault(refusal) => Packed::Fault(refusal),
         Block::Bytes(start, size) => {
             let end = start + size;
-            let list = entries(&bytes[..end], start);
-            let counted = list.counted;
+            let counted = entries(&bytes[..end], start, suites);
             match counted {
                 Counted::Fault(refusal) => Packed::Fault(refusal),
-                Counted::Count(count) => {
-                    let entries = list.entries;
-                    *suites = entries;
-                    Packed::Suites(count, end)
-                }
+                Counted::Count(count) => Packed::Suites(count, end),
             }
         }
     }

@@ -23,9 +23,9 @@ pub const ACK: u32 = 9;
 // A key is a field's number times this, plus the wire type.
 pub const WIRE_TYPES: u32 = 8;
 
-const VARINT: u32 = 0;
+pub const VARINT: u32 = 0;
 
-const LENGTH_DELIMITED: u32 = 2;
+pub const LENGTH_DELIMITED: u32 = 2;
 
 // What a field holds.
 pub enum Form {

@@ -1,11 +1,11 @@
 // A varint: seven bits a byte, the lowest first.
 ghost use mathlib.Core.Path.{_≡_};
 ghost use mathlib.Core.Bool.{cond};
-ghost use Prim.Native.Nat.{_<_, _+_, _*_};
+ghost use Prim.Native.Nat.{_<_, _≤_, _+_, _*_};
 ghost use lib.Dec.{ltb};
-ghost use lib.ListN.{drop};
-ghost use Rattle.wire.specs.Varint.{value, fault, said, numberAt, bitAt};
-ghost use Rattle.wire.specs.Parts.{numberOf, ahead};
+ghost use lib.ListN.{length, drop};
+ghost use Rattle.wire.specs.Varint.{value, fault, said, numberFrom, numberAt, bitAt};
+ghost use Rattle.wire.specs.Parts.{SaidBy, behind, numberOf};
 use crate::Refusal;
 
 // The lowest byte that announces another.
@@ -15,10 +15,24 @@ const LARGEST: u64 = 4294967295;
 
 const LARGEST_BIT: u32 = 1;
 
+// So many bytes say less than 2^63, so that only one more can leave 64 bits.
+const SAFE_WIDTH: usize = 9;
+
+// So many bytes say every number of 32 bits.
+const SHORT_WIDTH: usize = 5;
+
 // A number with the place after it.
 pub enum Varint {
     Number(u32, usize),
     Fault(Refusal),
+}
+
+// What the first bytes say: a value, and how many of them say it; they end too soon; or each of them announces more, with
+// what they say so far.
+enum Said {
+    Value(u64, usize),
+    Cut,
+    More(u64),
 }
 
 fn wide(byte: u8) -> u64
@@ -36,54 +50,91 @@ fn fitting(number: u64, next: usize) -> Varint
     Varint::Number(number as u32, next)
 }
 
-// The tenth byte of a number whose first nine say `low`. With any bit set it is too large.
-fn tenth(bytes: &[u8], at: usize, low: u64) -> Varint
-    ensures { λ r. ⌜ numberOf r ≡ ahead low 9223372036854775808 at (said 1 (drop at (now (bytes .entry)))) ⌝ }
-{
-    if at >= bytes.len() {
-        return Varint::Fault(Refusal::EndsTooSoon);
-    }
-    if bytes[at] > 0 {
-        return Varint::Fault(Refusal::NumberTooLarge);
-    }
-    fitting(low, at + 1)
-}
-
-// The number at a place. Most are said by one byte.
-pub fn number(bytes: &[u8], place: usize) -> Varint
-    ensures { λ r. ⌜ numberOf r ≡ numberAt (now (bytes .entry)) place ⌝ }
-{
-    if place < bytes.len() {
-        let byte = wide(bytes[place]);
-        if byte < MORE {
-            return Varint::Number(byte as u32, place + 1);
-        }
-    }
-    long_number(bytes, place)
-}
-
-// A number of any length. Nine bytes say less than 2^63, so that only the tenth can leave 64 bits.
-pub fn long_number(bytes: &[u8], place: usize) -> Varint
-    ensures { λ r. ⌜ numberOf r ≡ numberAt (now (bytes .entry)) place ⌝ }
+// What the first `most` bytes say.
+fn first_bytes(bytes: &[u8], most: usize) -> Said
+    requires { ⌜ most ≤ 9 ⌝ }
+    ensures { λ r. ⌜ SaidBy most r (now (bytes .entry)) ⌝ }
 {
     let mut low: u64 = 0;
     let mut scale: u64 = 1;
-    let mut at = place;
-    let mut left: u32 = 10;
-    while left > 1 {
+    let mut at = 0;
+    while at < most {
         if at >= bytes.len() {
-            return Varint::Fault(Refusal::EndsTooSoon);
+            return Said::Cut;
         }
         let byte = wide(bytes[at]);
         if byte < MORE {
-            return fitting(low + scale * byte, at + 1);
+            return Said::Value(low + scale * byte, at + 1);
         }
         low += scale * (byte - MORE);
         scale *= MORE;
         at += 1;
-        left -= 1;
     }
-    tenth(bytes, at, low)
+    Said::More(low)
+}
+
+// A number whose first nine bytes say `low` and announce more. With any bit of the tenth it is too large.
+fn tenth(bytes: &[u8], place: usize, low: u64) -> Varint
+    requires { ⌜ place + length (now bytes) ≤ 18446744073709551615 ⌝ }
+    ensures { λ r. ⌜ numberOf r ≡ numberFrom place (behind low 9223372036854775808 9 (said 1 (drop 9 (now (bytes .entry))))) ⌝ }
+{
+    if SAFE_WIDTH >= bytes.len() {
+        return Varint::Fault(Refusal::EndsTooSoon);
+    }
+    if bytes[SAFE_WIDTH] > 0 {
+        return Varint::Fault(Refusal::NumberTooLarge);
+    }
+    fitting(low, place + 10)
+}
+
+// A number of any length, from its bytes on; `place` is that of the first.
+fn long_number(bytes: &[u8], place: usize) -> Varint
+    requires { ⌜ place + length (now bytes) ≤ 18446744073709551615 ⌝ }
+    ensures { λ r. ⌜ numberOf r ≡ numberFrom place (said 10 (now (bytes .entry))) ⌝ }
+{
+    let said = first_bytes(bytes, SAFE_WIDTH);
+    match said {
+        Said::Value(number, width) => fitting(number, place + width),
+        Said::Cut => Varint::Fault(Refusal::EndsTooSoon),
+        Said::More(low) => tenth(bytes, place, low),
+    }
+}
+
+// The number at a place. Most keys and lengths are said by one byte or two, and these are read without a call.
+pub fn number(bytes: &[u8], place: usize) -> Varint
+    ensures { λ r. ⌜ numberOf r ≡ numberAt (now (bytes .entry)) place ⌝ }
+{
+    if place >= bytes.len() {
+        return Varint::Fault(Refusal::EndsTooSoon);
+    }
+    let first = wide(bytes[place]);
+    if first < MORE {
+        return Varint::Number(first as u32, place + 1);
+    }
+    if bytes.len() - place > 1 {
+        let second = wide(bytes[place + 1]);
+        if second < MORE {
+            return Varint::Number((first - MORE + MORE * second) as u32, place + 2);
+        }
+    }
+    long_number(&bytes[place..], place)
+}
+
+// The same of an entry of a list, which may well have five bytes: where these are there, they are read without a test for
+// the end.
+pub fn entry(bytes: &[u8], place: usize) -> Varint
+    requires { ⌜ place ≤ length (now bytes) ⌝ }
+    ensures { λ r. ⌜ numberOf r ≡ numberAt (now (bytes .entry)) place ⌝ }
+{
+    if bytes.len() - place < SHORT_WIDTH {
+        return number(bytes, place);
+    }
+    let said = first_bytes(&bytes[place..], SHORT_WIDTH);
+    match said {
+        Said::Value(number, width) => fitting(number, place + width),
+        Said::Cut => Varint::Fault(Refusal::EndsTooSoon),
+        Said::More(_) => long_number(&bytes[place..], place),
+    }
 }
 
 // The bit at a place.

@@ -34,8 +34,7 @@ fn replay(mix: &Mix, mut read: impl FnMut(&[u8])) -> f64 {
 pub fn replay_archive(mix: &Mix) -> f64 {
     let (mut provers, mut verifiers) = (SuiteEntries::default(), SuiteEntries::default());
     replay(mix, |bytes| {
-        let message = raw::read(bytes, &mut provers, &mut verifiers);
-        black_box((&message, &provers, &verifiers));
+        black_box(&raw::read(bytes, &mut provers, &mut verifiers));
     })
 }
 

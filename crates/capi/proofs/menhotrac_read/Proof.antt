@@ -13,7 +13,7 @@ returns : tie.Need-returns
 returns c =
     let r = c .«read-flat» .ensures in
     let bytes = now (c .before .before .before .before .args .bytes) in
-    (r .0, (r .1 .0, (r .1 .1 .0, (r .1 .1 .1 .0, (r .1 .1 .1 .1, subst (λ (m : FlatMessage). m .place + m .size ≤ length bytes) (sym (r .0)) (lies bytes))))))
+    (r .0, (r .1 .0, (r .1 .1 .0, (r .1 .1 .1 .0, (r .1 .1 .1 .1 .0, subst (λ (m : FlatMessage). m .place + m .size ≤ length bytes) (sym (r .0)) (lies bytes))))))
 
 pub menhotrac-read-spec : {M : Type 1} → statement M
 menhotrac-read-spec = tie.close (tie.spec (λ c κs. search needs) returns)

@@ -50,12 +50,12 @@ module _ (s : tie.After-read-flat) where
   long-provers : length (s .«read-flat» .last .1 .0) ≡ 16
   long-provers =
       let r = s .«read-flat» .ensures in
-      ap length (r .1 .0) ∙ provers-16 zeros refl (readingOf read) (subst (λ (m : FlatMessage). m .provers ≤ 16) (r .0) (r .1 .1 .1 .1 .0))
+      ap length (r .1 .0) ∙ provers-16 zeros refl (readingOf read) (subst (λ (m : FlatMessage). m .provers ≤ 16) (r .0) (r .1 .1 .1 .1 .0 .0))
 
   long-verifiers : length (s .«read-flat» .last .1 .1 .0) ≡ 16
   long-verifiers =
       let r = s .«read-flat» .ensures in
-      ap length (r .1 .1 .0) ∙ verifiers-16 zeros refl (readingOf read) (subst (λ (m : FlatMessage). m .verifiers ≤ 16) (r .0) (r .1 .1 .1 .1 .1))
+      ap length (r .1 .1 .0) ∙ verifiers-16 zeros refl (readingOf read) (subst (λ (m : FlatMessage). m .verifiers ≤ 16) (r .0) (r .1 .1 .1 .1 .0 .1))
 
 slice-aggregate-first : tie.Need-slice-aggregate-first
 slice-aggregate-first c = sym (long-provers (c .before .before .before .before .before .before))
@@ -73,10 +73,10 @@ returns-2 c =
     let g = given (a .token) (a .«token-refusal») (now (a .«our-verifiers»)) (now (a .«our-provers»)) in
     let e = arrived-read bytes _ _ m (r .ensures .1 .1 .1 .0) none (recordIn (now (a .numbers))) g (now (a .cache)) in
     let p : firstOf (m .provers) (r .last .1 .0) ≡ entries (m .provers) (r .last .1 .0) =
-    first-entries (m .provers) _ (long-provers (c .before .before .before .before .before .before .before .before .before .before .before .before .before .before)) (r .ensures .1 .1 .1 .1 .0)
+    first-entries (m .provers) _ (long-provers (c .before .before .before .before .before .before .before .before .before .before .before .before .before .before)) (r .ensures .1 .1 .1 .1 .0 .0)
     in
     let v : firstOf (m .verifiers) (r .last .1 .1 .0) ≡ entries (m .verifiers) (r .last .1 .1 .0) =
-    first-entries (m .verifiers) _ (long-verifiers (c .before .before .before .before .before .before .before .before .before .before .before .before .before .before)) (r .ensures .1 .1 .1 .1 .1)
+    first-entries (m .verifiers) _ (long-verifiers (c .before .before .before .before .before .before .before .before .before .before .before .before .before .before)) (r .ensures .1 .1 .1 .1 .0 .1)
     in
     let call : ℕ → Event → (payload peerProvers peerVerifiers : List ℕ) → Result =
     λ also event payload peerProvers peerVerifiers. resultAlso also (recordIn (now (a .numbers))) (callOf event payload (now (a .«our-verifiers»)) peerProvers peerVerifiers (now (a .«our-provers»))) (now (a .cache))

@@ -17,31 +17,31 @@ use Rattle.wire.proofs.list.entries.Statement.{statement}
 use Rattle.wire.proofs.list.entries.Tie as tie
 
 abbrev Inv-loop : tie.InvT-loop
-Inv-loop bytes start entries₀ count₀ at₀ entries count at =
-    (suites : List ℕ)
-    × (length suites ≡ count)
+Inv-loop bytes start suites₀ count₀ at₀ suites count at =
+    (read : List ℕ)
+    × (length read ≡ count)
     × (count ≤ 16)
-    × (entries ≡ padded suites)
-    × (judged (ofEntries bytes (16 - count) (entriesFrom bytes at)) (suites ++ suitesFrom bytes at) ≡ listFrom bytes start)
+    × (suites ≡ padded read)
+    × (judged (ofEntries bytes (16 - count) (entriesFrom bytes at)) (read ++ suitesFrom bytes at) ≡ listFrom bytes start)
 
 abbrev μ-loop : tie.MeasureT-loop
-μ-loop bytes start entries₀ count₀ at₀ entries count at = length bytes - at
+μ-loop bytes start suites₀ count₀ at₀ suites count at = length bytes - at
 
 loop-holds : tie.Need-loop-holds Inv-loop μ-loop
 unfolding listFrom
-loop-holds c = ([], refl, omega arith, refl, refl)
+loop-holds c = ([], refl, omega arith, c .before .pre, refl)
 
 returns : tie.Need-returns Inv-loop μ-loop
 returns c =
     let l = c .before .before .before .before .before .loop in
-    let e = sym (c .before .before .before .«long-number» .ensures) ∙ ap numberOf (c .before .entry .given .1) in
+    let e = sym (c .before .before .before .entry .ensures) ∙ ap numberOf (c .before .read .given .1) in
     (sym (entry-faulty _ (l .at) (c .before .before .before .before .loop-test .taken) _ (16 - l .count) _ e) ∙ l .inv .4, tt)
 
 returns-2 : tie.Need-returns-2 Inv-loop μ-loop
 returns-2 c =
     let l = c .before .before .before .before .before .before .loop in
     let s = c .before .before .before .before .before .before .before .before .args .bytes .now in
-    let e = sym (c .before .before .before .before .«long-number» .ensures) ∙ ap numberOf (c .before .before .entry2 .given .1) in
+    let e = sym (c .before .before .before .before .entry .ensures) ∙ ap numberOf (c .before .before .read2 .given .1) in
     let full : 16 - l .count ≡ 0 = omega (arith, c .if1 .taken) in (
       sym (ap (λ (n : ℕ). judged (ofEntries s n (entriesFrom s (l .at))) (l .inv .0 ++ suitesFrom s (l .at))) full
           ∙ one-too-many s (l .at) (c .before .before .before .before .before .loop-test .taken) _ _ e _) ∙ l .inv .4,
@@ -55,15 +55,15 @@ room c = let l = c .before .before .before .before .before .before .loop in omeg
 loop-less : tie.Need-loop-less Inv-loop μ-loop
 loop-less c =
     let l = c .before .before .before .before .before .before .loop in
-    let e = sym (c .before .before .before .before .«long-number» .ensures) ∙ ap numberOf (c .before .before .entry2 .given .1) in
+    let e = sym (c .before .before .before .before .entry .ensures) ∙ ap numberOf (c .before .before .read2 .given .1) in
     omega (arith, after-read _ (l .at) _ _ e .0, c .before .before .before .before .before .loop-test .taken)
 
 loop-again : tie.Need-loop-again Inv-loop μ-loop
 loop-again c =
     let l = c .before .before .before .before .before .before .loop in
     let s = c .before .before .before .before .before .before .before .before .args .bytes .now in
-    let suite = c .before .before .entry2 .given .0 .0 in
-    let e = sym (c .before .before .before .before .«long-number» .ensures) ∙ ap numberOf (c .before .before .entry2 .given .1) in
+    let suite = c .before .before .read2 .given .0 .0 in
+    let e = sym (c .before .before .before .before .entry .ensures) ∙ ap numberOf (c .before .before .read2 .given .1) in
     let more : 16 - l .count ≡ suc (16 - (l .count + 1)) = omega (arith, room c) in (
       l .inv .0 ++ (suite ∷ []),
       length-append (l .inv .0) (suite ∷ []) ∙ ap (λ (n : ℕ). n + 1) (l .inv .1),
@@ -77,7 +77,7 @@ loop-again c =
 returns-3 : tie.Need-returns-3 Inv-loop μ-loop
 returns-3 c =
     let l = c .before .loop in
-    let all : entries (l .count) (l .entries) ≡ l .inv .0 =
+    let all : entries (l .count) (l .suites) ≡ l .inv .0 =
     rw (l .inv .3, ← l .inv .1) (padded-entries (l .inv .0) (omega (arith, l .inv .1, l .inv .2)))
     in
     (rw (all) (list-ends _ (l .at) (16 - l .count) (l .inv .0) (c .loop-test .left) ∙ l .inv .4), (l .inv .2, rw (all) (l .inv .3)))

@@ -1,9 +1,9 @@
 -- `wire::list::packed_at` meets its contract.
-use mathlib.Core.Path.{_≡_, refl, sym, ap, subst, _∙_}
+use mathlib.Core.Path.{_≡_, sym, ap, subst, _∙_}
 use native.Mathlib.Omega.{arith}
 use borrow.Author.Needs.{needs}
 use lib.Seq.{length-take-le}
-use Rattle.wire.specs.Parts.{Padded, blockOf, countedIn, mapped}
+use Rattle.wire.specs.Parts.{Counts, blockOf, countedIn, mapped}
 use Rattle.wire.specs.declared.list.Counted.{Counted}
 use Rattle.wire.proofs.Lists.{packed-faulty, packed-list}
 use Rattle.wire.proofs.Places.{block-within}
@@ -23,20 +23,21 @@ slice-aggregate-entries c =
 returns : tie.Need-returns
 returns c =
     let e = sym (c .before .before .before .«block-at» .ensures) ∙ ap blockOf (c .before .part .given .1) in
-    (sym (packed-faulty _ _ _ e), refl)
+    (sym (packed-faulty _ _ _ e), tt)
 
 returns-2 : tie.Need-returns-2
 returns-2 c =
-    let e = sym (c .before .before .before .before .before .before .before .before .«block-at» .ensures) ∙ ap blockOf (c .before .before .before .before .before .before .part2 .given .1) in
-    let r = sym (c .before .before .before .entries .ensures .0) ∙ ap (λ (k : Counted). countedIn k (c .before .before .before .entries .result .entries)) (c .before .counted .given .1) in
-    (sym (packed-list _ _ _ _ e ∙ ap (mapped _) r), refl)
+    let e = sym (c .before .before .before .before .before .before .before .before .before .«block-at» .ensures) ∙ ap blockOf (c .before .before .before .before .before .before .before .part2 .given .1) in
+    let l = c .before .before .before .entries in
+    let r = sym (l .ensures .0) ∙ ap (λ (k : Counted). countedIn k (l .last .1 .1 .0)) (c .before .counted .given .1) in
+    (sym (packed-list _ _ _ _ e ∙ ap (mapped _) r), tt)
 
 returns-3 : tie.Need-returns-3
 returns-3 c =
     let e = sym (c .before .before .before .before .before .before .before .before .before .«block-at» .ensures) ∙ ap blockOf (c .before .before .before .before .before .before .before .part2 .given .1) in
-    let l = c .before .before .before .before .entries in
-    let r = sym (l .ensures .0) ∙ ap (λ (k : Counted). countedIn k (l .result .entries)) (c .before .before .counted2 .given .1) in
-    (sym (packed-list _ _ _ _ e ∙ ap (mapped _) r), subst (λ (k : Counted). Padded k (l .result .entries)) (c .before .before .counted2 .given .1) (l .ensures .1))
+    let l = c .before .before .before .entries in
+    let r = sym (l .ensures .0) ∙ ap (λ (k : Counted). countedIn k (l .last .1 .1 .0)) (c .before .counted2 .given .1) in
+    (sym (packed-list _ _ _ _ e ∙ ap (mapped _) r), subst (λ (k : Counted). Counts k (l .last .1 .1 .0)) (c .before .counted2 .given .1) (l .ensures .1))
 
 pub packed-at-spec : {M : Type 1} → statement M
 packed-at-spec =

@@ -1,0 +1,123 @@
+-- What has been read of a message between two of its fields, and how far. No definition rests on this file.
+use mathlib.Core.Path.{_≡_}
+use Prim.Native.Nat.{ℕ, _+_}
+use mathlib.Core.Bool.{Bool, true, false, cond, _||_}
+use mathlib.Core.List.{List, []}
+use lib.Dec.{eqb}
+use Rattle.wire.specs.Layout.{fieldNumber}
+use Rattle.wire.specs.Schema.{formIn, isUnknown}
+use Rattle.wire.specs.Fault.{Reading, readAs, refused}
+use Rattle.wire.specs.Faults.{FieldNumbers}
+use Rattle.wire.specs.Message.{Message, made}
+use Rattle.wire.specs.Numbers.{refusalNumber, entries, padded}
+use Rattle.wire.specs.Parts.{Holds}
+use Rattle.wire.specs.declared.Refusal.{Refusal}
+use Rattle.wire.specs.declared.Refusal.the-variants.{UnexpectedField, WrongWireType}
+use Rattle.wire.specs.declared.schema.Form.{Form}
+use Rattle.wire.specs.declared.schema.Form.the-variants.{Unknown, Bytes, Provers, Verifiers, Bit}
+
+-- Which fields have been read, by their form: a message has one of each at most.
+pub record Marks : Type 0 where
+  pub bytes : Bool
+  pub provers : Bool
+  pub verifiers : Bool
+  pub bit : Bool
+
+abbrev pub marks : (bytes provers verifiers bit : Bool) → Marks
+marks bytes provers verifiers bit = record { bytes = bytes; provers = provers; verifiers = verifiers; bit = bit }
+
+abbrev pub isRead : Form → Marks → Bool
+isRead Unknown read = false
+isRead Bytes read = read .bytes
+isRead Provers read = read .provers
+isRead Verifiers read = read .verifiers
+isRead Bit read = read .bit
+
+-- Forms as numbers, to compare them by.
+abbrev pub formCode : Form → ℕ
+formCode Unknown = 0
+formCode Bytes = 1
+formCode Provers = 2
+formCode Verifiers = 3
+formCode Bit = 4
+
+abbrev pub isForm : Form → Form → Bool
+isForm form other = eqb (formCode form) (formCode other)
+
+-- The marks with that of a form.
+abbrev pub marked : Form → Marks → Marks
+marked form read =
+    marks (isForm Bytes form || read .bytes) (isForm Provers form || read .provers)
+    (isForm Verifiers form || read .verifiers) (isForm Bit form || read .bit)
+
+-- The numbers of the fields that have been read.
+abbrev pub seenIn : (message : ℕ) → Marks → FieldNumbers
+seenIn message read number = isRead (formIn message number) read
+
+-- Why a key does not fit.
+abbrev pub misfitOf : (message key : ℕ) → Marks → Refusal
+misfitOf message key read =
+    let form = formIn message (fieldNumber key) in
+    cond (isUnknown form || isRead form read) UnexpectedField WrongWireType
+
+-- What has been read: which fields, where the bytes lie, the bit, and how many suites.
+pub record Fields : Type 0 where
+  pub read : Marks
+  pub place : ℕ
+  pub size : ℕ
+  pub bit : ℕ
+  pub provers : ℕ
+  pub verifiers : ℕ
+
+abbrev pub fields : Marks → (place size bit provers verifiers : ℕ) → Fields
+fields read place size bit provers verifiers = record {
+  read = read;
+  place = place;
+  size = size;
+  bit = bit;
+  provers = provers;
+  verifiers = verifiers;
+}
+
+abbrev pub nothing : Fields
+nothing = fields (marks false false false false) 0 0 0 0 0
+
+-- The same with the mark of a form.
+abbrev pub withMark : Form → Fields → Fields
+withMark form f = fields (marked form (f .read)) (f .place) (f .size) (f .bit) (f .provers) (f .verifiers)
+
+-- The message that fields and two lists are so far.
+abbrev pub viewOf : ℕ → Fields → (provers verifiers : List ℕ) → Message
+viewOf number f provers verifiers =
+    made number (f .place) (f .size) (f .bit) (entries (f .provers) provers) (entries (f .verifiers) verifiers)
+
+-- A list holds the suites that were counted, and zeros until it is read.
+abbrev pub Unread : Bool → List ℕ → Type 0
+Unread read list = read ≡ false → list ≡ padded []
+
+abbrev pub Tidy : Fields → (provers verifiers : List ℕ) → Type 0
+Tidy f provers verifiers =
+    (Holds (f .provers) provers × Unread (f .read .provers) provers)
+    × (Holds (f .verifiers) verifiers × Unread (f .read .verifiers) verifiers)
+
+-- How far a message has been read: the numbers of its fields, what they hold, and the place after them.
+pub record Stage : Type 0 where
+  pub former : FieldNumbers
+  pub message : Message
+  pub next : ℕ
+
+abbrev pub stage : FieldNumbers → Message → ℕ → Stage
+stage former message next = record { former = former; message = message; next = next }
+
+-- What follows one field: all that has been read and the place after it, or a refusal.
+pub data Step : Type 0 where
+  proceed : Fields → (place : ℕ) → Step
+  stop : Refusal → Step
+
+abbrev pub stepIn : ℕ → Step → (provers verifiers : List ℕ) → Reading Stage
+stepIn number (proceed f place) provers verifiers = readAs (stage (seenIn number (f .read)) (viewOf number f provers verifiers) place)
+stepIn number (stop refusal) provers verifiers = refused (refusalNumber refusal)
+
+abbrev pub TidyStep : Step → (provers verifiers : List ℕ) → Type 0
+TidyStep (proceed f place) provers verifiers = Tidy f provers verifiers
+TidyStep (stop refusal) provers verifiers = Unit {0}

@@ -1,0 +1,108 @@
+-- What the private functions that read fields answer. No definition rests on this file.
+use mathlib.Core.Path.{_≡_}
+use Prim.Native.Nat.{ℕ, _+_}
+use mathlib.Core.Bool.{Bool, false, _||_}
+use mathlib.Core.List.{List, []}
+use lib.Dec.{eqb}
+use lib.ListN.{length}
+use Rattle.wire.specs.Varint.{value, numberAt}
+use Rattle.wire.specs.Layout.{blockAt, afterBlock, afterNumber, afterKey, fieldsFrom}
+use Rattle.wire.specs.Schema.{formIn}
+use Rattle.wire.specs.Fault.{Reading, readAs, refused, judged}
+use Rattle.wire.specs.Faults.{noNumbers, adding, numbered, ofContent, ofField, ofFields}
+use Rattle.wire.specs.Message.{Message, made, empty, filled, withField, withFields}
+use Rattle.wire.specs.Numbers.{refusalNumber, entries}
+use Rattle.wire.specs.Parts.{Holds}
+use Rattle.wire.specs.Fields.{Fields, Step, Tidy, TidyStep, fields, marked, marks, proceed, seenIn, stage, stepIn, stop, viewOf, withMark}
+use Rattle.wire.specs.declared.plain.Field as plain
+use Rattle.wire.specs.declared.plain.Field.the-variants as plain-field
+use Rattle.wire.specs.declared.plain.Plain.{Plain}
+use Rattle.wire.specs.declared.plain.Plain.the-variants as of-plain
+use Rattle.wire.specs.declared.hello.Field as hello
+use Rattle.wire.specs.declared.hello.Field.the-variants as hello-field
+use Rattle.wire.specs.declared.hello.Hello.{Hello}
+use Rattle.wire.specs.declared.hello.Hello.the-variants as of-hello
+use Rattle.wire.specs.declared.schema.Form.{Form}
+use Rattle.wire.specs.declared.schema.Form.the-variants.{Unknown, Bytes, Provers, Verifiers, Bit}
+
+-- The place after what a field of a form holds.
+abbrev pub afterContent : Form → List ℕ → ℕ → ℕ
+afterContent Unknown bytes place = length bytes
+afterContent Bytes bytes place = afterBlock bytes (blockAt bytes place)
+afterContent Provers bytes place = afterBlock bytes (blockAt bytes place)
+afterContent Verifiers bytes place = afterBlock bytes (blockAt bytes place)
+afterContent Bit bytes place = afterNumber bytes (numberAt bytes place)
+
+-- A step over what a field of a form holds, from fields that have its mark.
+pub record ContentStep (form : Form) (bytes : List ℕ) (place : ℕ) (f : Fields) (provers verifiers : List ℕ) (r : Step) (provers′ verifiers′ : List ℕ) : Type 0 where
+  pub reads : (number : ℕ) → stepIn number r provers′ verifiers′ ≡ judged (ofContent form bytes place) (stage (seenIn number (f .read)) (filled form bytes place (viewOf number f provers verifiers)) (afterContent form bytes place))
+  pub tidies : Tidy f provers verifiers → TidyStep r provers′ verifiers′
+
+-- A step over one field.
+pub record FieldStep (number : ℕ) (bytes : List ℕ) (place : ℕ) (f : Fields) (provers verifiers : List ℕ) (r : Step) (provers′ verifiers′ : List ℕ) : Type 0 where
+  pub reads :
+      stepIn number r provers′ verifiers′
+      ≡ judged (ofField (formIn number) (seenIn number (f .read)) bytes place (numberAt bytes place))
+      (stage (adding (numbered (numberAt bytes place)) (seenIn number (f .read))) (withField bytes (numberAt bytes place) (viewOf number f provers verifiers)) (afterKey bytes (numberAt bytes place)))
+  pub tidies : Tidy f provers verifiers → TidyStep r provers′ verifiers′
+
+-- What a field of a message without lists adds to the fields before it.
+abbrev pub plainStep : plain.Field → Fields → Step
+plainStep (plain-field.Bytes start size) f = proceed (fields (marked Bytes (f .read)) start size (f .bit) (f .provers) (f .verifiers)) (start + size)
+plainStep (plain-field.Bit bit after) f = proceed (fields (marked Bit (f .read)) (f .place) (f .size) bit (f .provers) (f .verifiers)) after
+plainStep (plain-field.Fault refusal) f = stop refusal
+
+-- What a field of a hello adds.
+abbrev pub helloStep : hello.Field → Fields → Step
+helloStep (hello-field.Token start size) f = proceed (fields (marked Bytes (f .read)) start size (f .bit) (f .provers) (f .verifiers)) (start + size)
+helloStep (hello-field.Provers count after) f = proceed (fields (marked Provers (f .read)) (f .place) (f .size) (f .bit) count (f .verifiers)) after
+helloStep (hello-field.Verifiers count after) f = proceed (fields (marked Verifiers (f .read)) (f .place) (f .size) (f .bit) (f .provers) count) after
+helloStep (hello-field.Fault refusal) f = stop refusal
+
+-- What a field holds, whatever was read before it. Lists are written by their own fields alone.
+abbrev pub Content : Form → (bytes : List ℕ) (place : ℕ) → (Fields → Step) → Type 0
+Content form bytes place step = (f : Fields) (provers verifiers : List ℕ) → ContentStep form bytes place (withMark form f) provers verifiers (step f) provers verifiers
+
+abbrev pub ProversContent : (bytes : List ℕ) (place : ℕ) → hello.Field → (list : List ℕ) → Type 0
+ProversContent bytes place r list = (f : Fields) (provers verifiers : List ℕ) → ContentStep Provers bytes place (withMark Provers f) provers verifiers (helloStep r f) list verifiers
+
+abbrev pub VerifiersContent : (bytes : List ℕ) (place : ℕ) → hello.Field → (list : List ℕ) → Type 0
+VerifiersContent bytes place r list = (f : Fields) (provers verifiers : List ℕ) → ContentStep Verifiers bytes place (withMark Verifiers f) provers verifiers (helloStep r f) provers list
+
+-- Whether a message below DATA has a field.
+abbrev pub hasPart : ℕ → Bool
+hasPart message = eqb message 4 || eqb message 6 || eqb message 7
+
+-- One field of a message without lists, with the marks before it.
+abbrev pub PlainStep : (message : ℕ) (bytes : List ℕ) (place : ℕ) (bytesRead bitRead : Bool) → plain.Field → Type 0
+PlainStep message bytes place bytesRead bitRead r =
+    (f : Fields) → f .read ≡ marks bytesRead false false bitRead → (provers verifiers : List ℕ) →
+    FieldStep message bytes place f provers verifiers (plainStep r f) provers verifiers
+
+-- The same behind its key.
+abbrev pub PlainKey : (message key : ℕ) (bytes : List ℕ) (behindKey : ℕ) (bytesRead bitRead : Bool) → plain.Field → Type 0
+PlainKey message key bytes behindKey bytesRead bitRead r =
+    (place : ℕ) → numberAt bytes place ≡ value key behindKey → PlainStep message bytes place bytesRead bitRead r
+
+-- One field of a hello.
+abbrev pub HelloStep : (bytes : List ℕ) (place : ℕ) (tokenRead proversRead verifiersRead : Bool) (provers verifiers : List ℕ) → hello.Field → (provers′ verifiers′ : List ℕ) → Type 0
+HelloStep bytes place tokenRead proversRead verifiersRead provers verifiers r provers′ verifiers′ =
+    (f : Fields) → f .read ≡ marks tokenRead proversRead verifiersRead false →
+    FieldStep 1 bytes place f provers verifiers (helloStep r f) provers′ verifiers′
+
+-- The fields of a message from `start` to its end.
+unfoldable pub fieldsOf : (number : ℕ) (bytes : List ℕ) (start : ℕ) → Reading Message
+fieldsOf number bytes start =
+    judged (ofFields (formIn number) noNumbers bytes (fieldsFrom bytes start)) (withFields bytes (fieldsFrom bytes start) (empty number))
+
+abbrev pub plainIn : ℕ → Plain → Reading Message
+plainIn number (of-plain.Read part bit) = readAs (made number (part .place) (part .size) bit [] [])
+plainIn number (of-plain.Fault refusal) = refused (refusalNumber refusal)
+
+abbrev pub helloIn : Hello → (provers verifiers : List ℕ) → Reading Message
+helloIn (of-hello.Read token p v) provers verifiers = readAs (made 1 (token .place) (token .size) 0 (entries p provers) (entries v verifiers))
+helloIn (of-hello.Fault refusal) provers verifiers = refused (refusalNumber refusal)
+
+abbrev pub HelloCounts : Hello → (provers verifiers : List ℕ) → Type 0
+HelloCounts (of-hello.Read token p v) provers verifiers = Holds p provers × Holds v verifiers
+HelloCounts (of-hello.Fault refusal) provers verifiers = Unit {0}
