@@ -54,10 +54,15 @@ fn hello(
     requires { ⌜ start + size ≤ length (now bytes) ⌝ }
     ensures { λ r. ⌜ Reads r (innerOf 1 (now (bytes .entry)) start size) (now (provers .entry)) (now (verifiers .entry)) (now (provers .exit)) (now (verifiers .exit)) ⌝ }
 {
-    let end = start + size;
+    let hello_end = start + size;
     let mut peer_provers = [0; 16];
     let mut peer_verifiers = [0; 16];
-    let read = read_hello(&bytes[..end], start, &mut peer_provers, &mut peer_verifiers);
+    let read = read_hello(
+        &bytes[..hello_end],
+        start,
+        &mut peer_provers,
+        &mut peer_verifiers,
+    );
     match read {
         Hello::Fault(refusal) => refused(refusal),
         Hello::Read {
@@ -65,7 +70,7 @@ fn hello(
             provers: prover_count,
             verifiers: verifier_count,
         } => {
-            if end < bytes.len() {
+            if hello_end < bytes.len() {
                 return refused(Refusal::UnexpectedField);
             }
             *provers = peer_provers;
