@@ -719,7 +719,7 @@ static inline int menhotrac_refused(uint32_t answer)
  * The payload part that actions name: where it starts, and in `len` its length. It lies in the
  * payload lent to the step or in the cache as the step left it, and is no copy. A slice shorter
  * than the actions say gives an empty part. Where the length is 0, the pointer may be NULL. After
- * menhotrac_receive the payload is at bytes + place, and bytes_len - place bytes long.
+ * menhotrac_receive pass bytes + place and bytes_len - place as the payload.
  */
 static inline const uint8_t *menhotrac_part(const menhotrac_actions *actions,
                                             const uint8_t *payload, size_t payload_len,

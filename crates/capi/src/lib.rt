@@ -6,7 +6,7 @@ ghost use mathlib.Core.Path.{_≡_};
 ghost use Prim.Native.Nat.{_+_, _≤_};
 ghost use lib.ListN.{length};
 ghost use Rattle.capi.specs.Choice.{chosenOf};
-ghost use Rattle.capi.specs.Arrived.{eventIn};
+ghost use Rattle.capi.specs.Arrived.{flatEventWith};
 ghost use Rattle.capi.specs.Part.{Within, partIn};
 ghost use Rattle.capi.specs.Returned.{returned};
 ghost use Rattle.capi.specs.Verdict.{eventOf, refusedAs, wrongVerdict};
@@ -94,7 +94,7 @@ pub struct FlatToken {
 }
 
 fn event_in(code: u32, bit: u32, token: FlatToken) -> FlatEvent
-    ensures { λ r. ⌜ r ≡ eventIn code bit token ⌝ }
+    ensures { λ r. ⌜ r ≡ flatEventWith code bit token ⌝ }
 {
     FlatEvent {
         code,
@@ -197,7 +197,7 @@ pub extern "C" fn menhotrac_read(
 // The event that a message is, by its number and bit, with what the host found of the token.
 #[no_mangle]
 pub extern "C" fn menhotrac_event_of(number: u32, bit: u32, token: FlatToken) -> FlatEvent
-    ensures { λ r. ⌜ r ≡ eventIn (codeOf number) bit token ⌝ }
+    ensures { λ r. ⌜ r ≡ flatEventWith (codeOf number) bit token ⌝ }
 {
     event_in(code_of(number), bit, token)
 }

@@ -19,7 +19,7 @@ use Rattle.wire.specs.Message.{made, readingOf}
 use Rattle.wire.specs.Message as spec
 use Rattle.wire.specs.Numbers.{entries, partOf}
 use Rattle.wire.specs.declared.flat.FlatMessage.{FlatMessage}
-use Rattle.inbound.specs.Arrival.{alsoOf, codeOf, eventOf, firstOf}
+use Rattle.inbound.specs.Arrival.{alsoOf, codeOf, eventOf, firstEntries}
 use Rattle.inbound.specs.Received.{Given, placeIn, received, receivedAs}
 
 -- A number that is no message's has no event's code.
@@ -37,7 +37,7 @@ no-event (suc (suc (suc (suc (suc (suc (suc (suc (suc zero))))))))) a b c d e f 
 no-event (suc (suc (suc (suc (suc (suc (suc (suc (suc (suc n)))))))))) a b c d e f g h i = refl
 
 -- The first entries of a list of sixteen.
-pub first-entries : (count : ℕ) (list : List ℕ) → length list ≡ 16 → count ≤ 16 → firstOf count list ≡ entries count list
+pub first-entries : (count : ℕ) (list : List ℕ) → length list ≡ 16 → count ≤ 16 → firstEntries count list ≡ entries count list
 first-entries count list e h = rw (all-there count list e h, le-ltb (length list) count (omega (arith, e)))
 
 module _ (bytes provers verifiers : List ℕ) (m : FlatMessage) (e : readingBy m provers verifiers ≡ readingOf bytes) where

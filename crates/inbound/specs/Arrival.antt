@@ -7,7 +7,7 @@ use lib.ListN.{length, getD, take}
 use Rattle.event.specs.declared.Event.{Event}
 use Rattle.inbound.specs.declared.Token.{Token}
 
--- The codes of the messages 1 to 9. No other number is a message's, and 24 no event's code.
+-- The codes of the messages 1 to 9. Any other number gets 24, which is no event's code.
 abbrev pub codeOf : ℕ → ℕ
 codeOf number =
     getD
@@ -24,7 +24,7 @@ codeOf number =
     ∷ [])
     number 24
 
--- An event with a bit, and with what the host found of the token. A message carries no tag.
+-- An event with a bit, and with what the host found of the token. A message carries no tag and names no timer.
 abbrev pub eventWith : (code bit : ℕ) → Token → Event
 eventWith code bit token = record {
   code = code;
@@ -40,10 +40,11 @@ eventWith code bit token = record {
 abbrev pub eventOf : (number bit : ℕ) → Token → Event
 eventOf number bit token = eventWith (codeOf number) bit token
 
--- HELLO and DAT carry a token: a refusal of the host's interface concerns these.
+-- `tokenRefusal` is what the host's interface refuses of the token, 0 for nothing. It counts for HELLO and DAT alone, which
+-- carry one.
 abbrev pub alsoOf : (number tokenRefusal : ℕ) → ℕ
 alsoOf number tokenRefusal = cond (eqb number 1 || eqb number 4) tokenRefusal 0
 
 -- The first entries of a list; none where it has not so many.
-abbrev pub firstOf : (count : ℕ) → List ℕ → List ℕ
-firstOf count list = cond (ltb (length list) count) [] (take count list)
+abbrev pub firstEntries : (count : ℕ) → List ℕ → List ℕ
+firstEntries count list = cond (ltb (length list) count) [] (take count list)

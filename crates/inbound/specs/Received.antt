@@ -12,13 +12,15 @@ use Rattle.wire.specs.Numbers.{partOf}
 use Rattle.inbound.specs.Arrival.{alsoOf, eventOf}
 use Rattle.inbound.specs.declared.Token.{Token}
 
--- What the host gives with the bytes: what it found of the token, a refusal of its interface or 0, and its own lists.
+-- What the host gives with the bytes: what it found of the token, what its interface refuses of the token or 0 (`resultAlso`),
+-- and its own lists.
 pub record Given : Type 0 where
   pub token : Token
   pub tokenRefusal : ℕ
   pub ourVerifiers : List ℕ
   pub ourProvers : List ℕ
 
+-- The same by its parts in their order.
 abbrev pub given : Token → ℕ → (ourVerifiers ourProvers : List ℕ) → Given
 given token tokenRefusal ourVerifiers ourProvers =
     record { token = token; tokenRefusal = tokenRefusal; ourVerifiers = ourVerifiers; ourProvers = ourProvers }

@@ -2,7 +2,7 @@
 ghost use mathlib.Core.Path.{_≡_};
 ghost use Rattle.flat.specs.Flat.{recordIn, slotsOf};
 ghost use Rattle.wire.specs.Message.{readingOf};
-ghost use Rattle.inbound.specs.Arrival.{alsoOf, codeOf, eventOf, eventWith, firstOf};
+ghost use Rattle.inbound.specs.Arrival.{alsoOf, codeOf, eventOf, eventWith, firstEntries};
 ghost use Rattle.inbound.specs.Received.{Given, given, placeIn, received};
 use connection::Answer;
 use connection::Event;
@@ -83,7 +83,7 @@ fn also_of(number: u32, token_refusal: u32) -> u32
 
 // The first entries of a list; none where it has not so many.
 fn first(list: &[u32], count: usize) -> &[u32]
-    ensures { λ r. ⌜ now r ≡ firstOf count (now (list .entry)) ⌝ }
+    ensures { λ r. ⌜ now r ≡ firstEntries count (now (list .entry)) ⌝ }
 {
     if count > list.len() {
         return &list[..0];

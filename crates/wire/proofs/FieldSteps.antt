@@ -11,8 +11,8 @@ use lib.Seq.{length-take-le}
 use Rattle.wire.specs.Varint.{Number, value, fault, numberAt, asBit, bitAt}
 use Rattle.wire.specs.Layout.{Block, block, faulty, blockAt, afterBlock, afterNumber, afterKey, places, fieldNumber, wireType, fieldsFrom, entriesFrom}
 use Rattle.wire.specs.Schema.{isUnknown, wrongType}
-use Rattle.wire.specs.Fault.{Fault, at, given, orElse, leftmost, Reading, readAs, refused, judged}
-use Rattle.wire.specs.Faults.{FieldNumbers, adding, numbered, ofNumber, ofList, ofBytes, ofEntries, ofContent, ofKey, ofField, ofFields}
+use Rattle.wire.specs.Fault.{Fault, at, faultIf, orElse, leftmost, Reading, readAs, refused, judged}
+use Rattle.wire.specs.Faults.{FieldNumbers, adding, fieldOf, ofNumber, ofList, ofBytes, ofEntries, ofContent, ofKey, ofField, ofFields}
 use Rattle.wire.specs.Steps.{afterContent}
 use Rattle.wire.specs.declared.schema.Form.{Form}
 use Rattle.wire.specs.declared.schema.Form.the-variants.{Unknown, Bytes, Provers, Verifiers, Bit}
@@ -23,19 +23,19 @@ use Rattle.wire.proofs.Forms.{absurd-bool}
 
 -- The faults of a key: an unexpected field, then a wrong wire type.
 module _ {A : Type 0} (x : A) (place : ℕ) (others : List Fault) where
-  pub unexpected : (b c : Bool) → b ≡ true → judged (orElse (given b (at place 22) ++ given c (at place 23)) others) x ≡ refused 22
+  pub unexpected : (b c : Bool) → b ≡ true → judged (orElse (faultIf b (at place 22) ++ faultIf c (at place 23)) others) x ≡ refused 22
   unfolding leftmost
   unexpected true true e = rw (not-before (at place 22) (at place 23) (omega arith) (λ p. omega arith))
   unexpected true false e = refl
   unexpected false c e = absurd-bool (sym e)
 
-  pub wrongly-typed : (b c : Bool) → b ≡ false → c ≡ true → judged (orElse (given b (at place 22) ++ given c (at place 23)) others) x ≡ refused 23
+  pub wrongly-typed : (b c : Bool) → b ≡ false → c ≡ true → judged (orElse (faultIf b (at place 22) ++ faultIf c (at place 23)) others) x ≡ refused 23
   unfolding leftmost
   wrongly-typed true c e f = absurd-bool e
   wrongly-typed false true e f = refl
   wrongly-typed false false e f = absurd-bool (sym f)
 
-pub announced : (place : ℕ) (others : List Fault) (b c : Bool) → b ≡ false → c ≡ false → orElse (given b (at place 22) ++ given c (at place 23)) others ≡ others
+pub announced : (place : ℕ) (others : List Fault) (b c : Bool) → b ≡ false → c ≡ false → orElse (faultIf b (at place 22) ++ faultIf c (at place 23)) others ≡ others
 announced place others true c e f = absurd-bool e
 announced place others false true e f = absurd-bool f
 announced place others false false e f = refl
@@ -129,7 +129,7 @@ module _ (message : List ℕ) where
     where
       by-test : (key next : ℕ) → (place < next) × (next ≤ length message) → place < afterKey message (value key next) →
           (b c : Bool) → (isUnknown (form (fieldNumber key)) || former (fieldNumber key)) ≡ b → wrongType (form (fieldNumber key)) (wireType key) ≡ c →
-          Between place (afterKey message (value key next)) (orElse (given b (at place 22) ++ given c (at place 23)) (ofContent (form (fieldNumber key)) message next))
+          Between place (afterKey message (value key next)) (orElse (faultIf b (at place 22) ++ faultIf c (at place 23)) (ofContent (form (fieldNumber key)) message next))
       by-test key next s e true true p q = ((omega arith, omega arith, omega arith, omega arith), ((omega arith, omega arith, omega arith, omega arith), tt))
       by-test key next s e true false p q = ((omega arith, omega arith, omega arith, omega arith), tt)
       by-test key next s e false true p q = ((omega arith, omega arith, omega arith, omega arith), tt)
@@ -160,5 +160,5 @@ module _ (message : List ℕ) where
       by-place true f = f former next
       by-place false f =
           joined place (length message) (ofField form former message place (numberAt message place))
-          (ofFields form (adding (numbered (numberAt message place)) former) message (places after (suc place) (after place) left))
-          here (f (adding (numbered (numberAt message place)) former) (after place))
+          (ofFields form (adding (fieldOf (numberAt message place)) former) message (places after (suc place) (after place) left))
+          here (f (adding (fieldOf (numberAt message place)) former) (after place))

@@ -10,7 +10,7 @@ use Rattle.wire.specs.Varint.{numberAt}
 use Rattle.wire.specs.Layout.{afterKey, fieldsFrom}
 use Rattle.wire.specs.Schema.{formIn}
 use Rattle.wire.specs.Fault.{Fault, leftmost, readAs, refused, judged}
-use Rattle.wire.specs.Faults.{FieldNumbers, noNumbers, adding, numbered, ofField, ofFields}
+use Rattle.wire.specs.Faults.{FieldNumbers, noNumbers, adding, fieldOf, ofField, ofFields}
 use Rattle.wire.specs.Message.{withField, withFields}
 use Rattle.wire.specs.Numbers.{refusalNumber, entries, padded}
 use Rattle.wire.specs.Fields.{Fields, Stage, Step, Tidy, isRead, nothing, proceed, seenIn, stage, stepIn, stop, viewOf}
@@ -67,7 +67,7 @@ module _ (number : ℕ) (bytes : List ℕ) (start : ℕ) (f : Fields) (provers v
     here = ofField (formIn number) (seenIn number (f .read)) bytes at (numberAt bytes at)
 
     abbrev former : FieldNumbers
-    former = adding (numbered (numberAt bytes at)) (seenIn number (f .read))
+    former = adding (fieldOf (numberAt bytes at)) (seenIn number (f .read))
 
     abbrev later : List Fault
     later = ofFields (formIn number) former bytes (fieldsFrom bytes next)

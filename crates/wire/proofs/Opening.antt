@@ -11,7 +11,7 @@ use lib.Seq.{length-take-le}
 use Rattle.wire.specs.Varint.{Number, value, fault, numberAt}
 use Rattle.wire.specs.Layout.{Block, block, faulty, blockAt, afterKey, fieldNumber, wireType, fieldsFrom}
 use Rattle.wire.specs.Schema.{formIn, outerForm, isUnknown, wrongType}
-use Rattle.wire.specs.Fault.{Fault, at, given, leftmost, Reading, readAs, refused, judged}
+use Rattle.wire.specs.Fault.{Fault, at, faultIf, leftmost, Reading, readAs, refused, judged}
 use Rattle.wire.specs.Faults.{noNumbers, ofFields, ofInner, ofOuter, faultsOf}
 use Rattle.wire.specs.Message.{Message, empty, withFields, messageOf, readingOf}
 use Rattle.wire.specs.Steps.{fieldsOf}
@@ -98,12 +98,12 @@ module _ (number : ℕ) (bytes : List ℕ) (start size : ℕ) (h : start + size 
       (fields-between message (formIn number) (λ place. afterKey message (numberAt message place)) (length message - start) start start noNumbers (omega (arith, n)))
 
   abbrev following : List Fault
-  following = given (ltb (start + size) (length bytes)) (at (start + size) 22)
+  following = faultIf (ltb (start + size) (length bytes)) (at (start + size) 22)
 
   following-stands : Between (start + size) (length bytes) following
   following-stands = by-test (ltb (start + size) (length bytes)) refl
     where
-      by-test : (t : Bool) → ltb (start + size) (length bytes) ≡ t → Between (start + size) (length bytes) (given t (at (start + size) 22))
+      by-test : (t : Bool) → ltb (start + size) (length bytes) ≡ t → Between (start + size) (length bytes) (faultIf t (at (start + size) 22))
       by-test true e = let l = ltb-true (start + size) (length bytes) e in ((omega arith, omega arith, omega arith, omega (arith, l)), tt)
       by-test false e = tt
 

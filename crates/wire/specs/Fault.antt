@@ -6,10 +6,12 @@ use mathlib.Core.List.{List, [], _∷_}
 use mathlib.Core.Option.{Option, none, some}
 use lib.Dec.{eqb, ltb}
 
+-- Its place and its refusal's number.
 pub record Fault : Type 0 where
   pub place : ℕ
   pub number : ℕ
 
+-- The fault with a number at a place.
 abbrev pub at : (place number : ℕ) → Fault
 at place number = record { place = place; number = number }
 
@@ -17,7 +19,7 @@ at place number = record { place = place; number = number }
 abbrev pub before : Fault → Fault → Bool
 before f g = ltb (f .place) (g .place) || (eqb (f .place) (g .place) && ltb (f .number) (g .number))
 
--- The first of a fault and the first of others.
+-- The first of a fault and another, if there is another.
 abbrev pub firstOf : Fault → Option Fault → Option Fault
 firstOf f none = some f
 firstOf f (some g) = cond (before g f) (some g) (some f)
@@ -28,8 +30,8 @@ leftmost [] = none
 leftmost (f ∷ fs) = firstOf f (leftmost fs)
 
 -- A fault where a test holds.
-abbrev pub given : Bool → Fault → List Fault
-given holds f = cond holds (f ∷ []) []
+abbrev pub faultIf : Bool → Fault → List Fault
+faultIf holds f = cond holds (f ∷ []) []
 
 -- The faults of a key; if it shows none, those of what it announces.
 abbrev pub orElse : List Fault → List Fault → List Fault
@@ -41,6 +43,7 @@ pub data Reading (A : Type 0) : Type 0 where
   readAs : A → Reading A
   refused : (number : ℕ) → Reading A
 
+-- The reading where this fault, if any, is the first.
 abbrev pub byFirst : {A : Type 0} → Option Fault → A → Reading A
 byFirst none read = readAs read
 byFirst (some f) read = refused (f .number)

@@ -1,5 +1,6 @@
 -- Request #101, the refusals: the faults of a message, each at the first byte of the key, length or value that shows it.
--- A part that shows a fault announces nothing. Right of the first fault others may be listed or not: only the first is given.
+-- What follows a key is judged only if the key shows no fault. Right of the first fault others may be listed or not: only the
+-- first is given.
 use Prim.Native.Nat.{ℕ, zero, suc, _+_}
 use mathlib.Core.Bool.{Bool, true, false, cond, _||_}
 use mathlib.Core.List.{List, [], _∷_, _++_}
@@ -8,7 +9,7 @@ use lib.ListN.{length, take}
 use Rattle.wire.specs.Varint.{Number, value, fault, numberAt, bitAt}
 use Rattle.wire.specs.Layout.{Block, block, faulty, blockAt, fieldNumber, wireType, fieldsFrom, entriesFrom}
 use Rattle.wire.specs.Schema.{formIn, outerForm, isUnknown, wrongType}
-use Rattle.wire.specs.Fault.{Fault, at, given, orElse}
+use Rattle.wire.specs.Fault.{Fault, at, faultIf, orElse}
 use Rattle.wire.specs.declared.schema.Form.{Form}
 use Rattle.wire.specs.declared.schema.Form.the-variants.{Unknown, Bytes, Provers, Verifiers, Bit}
 
@@ -16,9 +17,11 @@ use Rattle.wire.specs.declared.schema.Form.the-variants.{Unknown, Bytes,
 abbrev pub FieldNumbers : Type 0
 FieldNumbers = ℕ → Bool
 
+-- The empty set.
 abbrev pub noNumbers : FieldNumbers
 noNumbers number = false
 
+-- A set with one more number.
 abbrev pub adding : ℕ → FieldNumbers → FieldNumbers
 adding new numbers number = eqb number new || numbers number
 
@@ -57,8 +60,8 @@ ofContent Bit message place = ofNumber place (bitAt message place)
 -- The faults of a key's field, with the numbers of the fields before it: 22 unknown or repeated, 23 wrong wire type.
 abbrev pub ofKey : (form : ℕ → Form) (former : FieldNumbers) (place key : ℕ) → List Fault
 ofKey form former place key =
-    given (isUnknown (form (fieldNumber key)) || former (fieldNumber key)) (at place 22)
-    ++ given (wrongType (form (fieldNumber key)) (wireType key)) (at place 23)
+    faultIf (isUnknown (form (fieldNumber key)) || former (fieldNumber key)) (at place 22)
+    ++ faultIf (wrongType (form (fieldNumber key)) (wireType key)) (at place 23)
 
 -- The faults of the field at a place, by its key.
 abbrev pub ofField : (form : ℕ → Form) (former : FieldNumbers) (message : List ℕ) (place : ℕ) → Number → List Fault
@@ -67,23 +70,23 @@ ofField form former message place (value key next) =
 ofField form former message place (fault refusal) = at place refusal ∷ []
 
 -- The number of a field, by its key; 0, which no field has, if the key is faulty.
-abbrev pub numbered : Number → ℕ
-numbered (value key next) = fieldNumber key
-numbered (fault refusal) = 0
+abbrev pub fieldOf : Number → ℕ
+fieldOf (value key next) = fieldNumber key
+fieldOf (fault refusal) = 0
 
 -- The faults of fields, with the numbers of those before them.
 unfoldable pub ofFields : (form : ℕ → Form) (former : FieldNumbers) (message : List ℕ) → List ℕ → List Fault
 ofFields form former message [] = []
 ofFields form former message (place ∷ places) =
     ofField form former message place (numberAt message place)
-    ++ ofFields form (adding (numbered (numberAt message place)) former) message places
+    ++ ofFields form (adding (fieldOf (numberAt message place)) former) message places
 
 -- The faults of one of the nine messages in the lent bytes, by its number, and of what follows it: any byte is refusal 22.
 -- The message's length stands at `place`.
 abbrev pub ofInner : (number : ℕ) (bytes : List ℕ) (place : ℕ) → Block → List Fault
 ofInner number bytes place (block start size) =
     ofFields (formIn number) noNumbers (take (start + size) bytes) (fieldsFrom (take (start + size) bytes) start)
-    ++ given (ltb (start + size) (length bytes)) (at (start + size) 22)
+    ++ faultIf (ltb (start + size) (length bytes)) (at (start + size) 22)
 ofInner number bytes place (faulty refusal) = at place refusal ∷ []
 
 -- The faults of the outer message, by the key at its first byte.

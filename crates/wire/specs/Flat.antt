@@ -35,7 +35,7 @@ readingBy m provers verifiers =
     (readAs (made (m .number) (m .place) (m .size) (m .bit) (entries (m .provers) provers) (entries (m .verifiers) verifiers)))
     (refused (m .refusal))
 
--- A refusal's number is one of request #101's, and a message's is one of the nine.
+-- A refusal's number is one of request #101's, and a message's is one of the nine; of refused bytes the message's number is 0.
 abbrev pub Known : FlatMessage → Type 0
 Known m =
     (m .refusal ≡ 0 → (1 ≤ m .number) × (m .number ≤ 9))

@@ -1,8 +1,7 @@
 -- The laws that pin the definition: a refusal is given by the first fault, a message shows none, and its part lies in the bytes.
 use mathlib.Core.Path.{_≡_}
 use mathlib.Core.Bool.{false}
-use mathlib.Core.List.{List, []}
-use mathlib.Core.List.{List·Memᴰ}
+use mathlib.Core.List.{List, [], List·Memᴰ}
 use Prim.Native.Nat.{ℕ, _+_, _≤_}
 use lib.ListN.{length}
 use Rattle.wire.specs.Fault.{Fault, before, Reading, readAs, refused}
@@ -23,6 +22,6 @@ RefusedByFirst =
 abbrev pub MessageFaultless : Type 0
 MessageFaultless = (bytes : List ℕ) (m : Message) → readingOf bytes ≡ readAs m → faultsOf bytes ≡ []
 
--- Its token or payload lies in the bytes.
+-- A message's token or payload lies in the bytes.
 abbrev pub PartLies : Type 0
 PartLies = (bytes : List ℕ) (m : Message) → readingOf bytes ≡ readAs m → m .place + m .size ≤ length bytes

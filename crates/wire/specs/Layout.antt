@@ -7,8 +7,8 @@ use lib.Dec.{eqb, ltb}
 use lib.ListN.{length}
 use Rattle.wire.specs.Varint.{Number, value, fault, numberAt}
 
--- Parts that stand one behind the other: the places where they begin, with `left` bytes from `place` on. The next part begins
--- at `next`, and `after` says which place follows a part.
+-- The places where parts begin that stand one behind the other. `left` bytes remain from `place` on, the next part begins at
+-- `next`, and `after` gives the place after the part at a place, which lies right of it.
 unfoldable pub places : (after : ℕ → ℕ) → (place next left : ℕ) → List ℕ
 places after place next zero = []
 places after place next (suc left) =
@@ -48,11 +48,12 @@ afterBlock message (faulty refusal) = length message
 abbrev pub fieldNumber : ℕ → ℕ
 fieldNumber key = key / 8
 
+-- The wire type in a key.
 abbrev pub wireType : ℕ → ℕ
 wireType key = key % 8
 
--- The place after what a key announces: wire type 0 is a varint, 2 length-delimited. After any other, and after a faulty key,
--- the message's end.
+-- The place after what a key announces: wire type 0 is a varint, 2 length-delimited. The public format has other types. No field
+-- of ours has one, so their key shows a fault, and what follows it does not matter: they, and a faulty key, end the message.
 abbrev pub afterKey : List ℕ → Number → ℕ
 afterKey message (value key next) =
     cond (eqb (wireType key) 0)

@@ -43,39 +43,42 @@ numberIn (fault refusal) = 0
 abbrev pub suitesFrom : (list : List ℕ) (start : ℕ) → List ℕ
 suitesFrom list start = map (λ place. numberIn (numberAt list place)) (entriesFrom list start)
 
+-- The suites of a packed list. Of a faulty part nothing is read, here and in the next two.
 abbrev pub suitesIn : List ℕ → Block → List ℕ
 suitesIn message (block start size) = suitesFrom (take (start + size) message) start
 suitesIn message (faulty refusal) = []
 
+-- Where a part begins.
 abbrev pub startIn : Block → ℕ
 startIn (block start size) = start
 startIn (faulty refusal) = 0
 
+-- How many bytes it has.
 abbrev pub sizeIn : Block → ℕ
 sizeIn (block start size) = size
 sizeIn (faulty refusal) = 0
 
 -- A message with what a field of a form holds at a place.
-abbrev pub filled : Form → (bytes : List ℕ) (place : ℕ) → Message → Message
-filled Unknown bytes place m = m
-filled Bytes bytes place m =
-    made (m .number) (startIn (blockAt bytes place)) (sizeIn (blockAt bytes place)) (m .bit) (m .provers) (m .verifiers)
-filled Provers bytes place m =
-    made (m .number) (m .place) (m .size) (m .bit) (suitesIn bytes (blockAt bytes place)) (m .verifiers)
-filled Verifiers bytes place m =
-    made (m .number) (m .place) (m .size) (m .bit) (m .provers) (suitesIn bytes (blockAt bytes place))
-filled Bit bytes place m =
-    made (m .number) (m .place) (m .size) (numberIn (bitAt bytes place)) (m .provers) (m .verifiers)
+abbrev pub filled : Form → (message : List ℕ) (place : ℕ) → Message → Message
+filled Unknown message place m = m
+filled Bytes message place m =
+    made (m .number) (startIn (blockAt message place)) (sizeIn (blockAt message place)) (m .bit) (m .provers) (m .verifiers)
+filled Provers message place m =
+    made (m .number) (m .place) (m .size) (m .bit) (suitesIn message (blockAt message place)) (m .verifiers)
+filled Verifiers message place m =
+    made (m .number) (m .place) (m .size) (m .bit) (m .provers) (suitesIn message (blockAt message place))
+filled Bit message place m =
+    made (m .number) (m .place) (m .size) (numberIn (bitAt message place)) (m .provers) (m .verifiers)
 
 -- A message with what the field of a key holds.
-abbrev pub withField : (bytes : List ℕ) → Number → Message → Message
-withField bytes (value key next) m = filled (formIn (m .number) (fieldNumber key)) bytes next m
-withField bytes (fault refusal) m = m
+abbrev pub withField : (message : List ℕ) → Number → Message → Message
+withField message (value key next) m = filled (formIn (m .number) (fieldNumber key)) message next m
+withField message (fault refusal) m = m
 
 -- A message with what its fields hold.
-unfoldable pub withFields : (bytes : List ℕ) → List ℕ → Message → Message
-withFields bytes [] m = m
-withFields bytes (place ∷ places) m = withFields bytes places (withField bytes (numberAt bytes place) m)
+unfoldable pub withFields : (message : List ℕ) → List ℕ → Message → Message
+withFields message [] m = m
+withFields message (place ∷ places) m = withFields message places (withField message (numberAt message place) m)
 
 -- The one message in an outer field.
 abbrev pub messageIn : (number : ℕ) (bytes : List ℕ) → Block → Message
@@ -84,6 +87,7 @@ messageIn number bytes (block start size) =
     withFields message (fieldsFrom message start) (empty number)
 messageIn number bytes (faulty refusal) = empty number
 
+-- The message by the outer key.
 abbrev pub messageBy : List ℕ → Number → Message
 messageBy bytes (value key next) = messageIn (fieldNumber key) bytes (blockAt bytes next)
 messageBy bytes (fault refusal) = empty 0

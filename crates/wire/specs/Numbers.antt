@@ -61,6 +61,7 @@ abbrev pub proversAfter : Reading spec.Message → List ℕ → List ℕ
 proversAfter (readAs m) provers = cond (eqb (m .number) 1) (padded (m .provers)) provers
 proversAfter (refused number) provers = provers
 
+-- The same of the second list.
 abbrev pub verifiersAfter : Reading spec.Message → List ℕ → List ℕ
 verifiersAfter (readAs m) verifiers = cond (eqb (m .number) 1) (padded (m .verifiers)) verifiers
 verifiersAfter (refused number) verifiers = verifiers

@@ -31,6 +31,7 @@ formIn message field = getD (getD schema message []) field Unknown
 abbrev pub outerForm : ℕ → Form
 outerForm number = cond (leb 1 number && leb number 9) Bytes Unknown
 
+-- Whether the schema has no such field.
 abbrev pub isUnknown : Form → Bool
 isUnknown Unknown = true
 isUnknown Bytes = false

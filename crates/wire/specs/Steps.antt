@@ -9,7 +9,7 @@ use Rattle.wire.specs.Varint.{value, numberAt}
 use Rattle.wire.specs.Layout.{blockAt, afterBlock, afterNumber, afterKey, fieldsFrom}
 use Rattle.wire.specs.Schema.{formIn}
 use Rattle.wire.specs.Fault.{Reading, readAs, refused, judged}
-use Rattle.wire.specs.Faults.{noNumbers, adding, numbered, ofContent, ofField, ofFields}
+use Rattle.wire.specs.Faults.{noNumbers, adding, fieldOf, ofContent, ofField, ofFields}
 use Rattle.wire.specs.Message.{Message, made, empty, filled, withField, withFields}
 use Rattle.wire.specs.Numbers.{refusalNumber, entries}
 use Rattle.wire.specs.Parts.{Holds}
@@ -43,7 +43,7 @@ pub record FieldStep (number : ℕ) (bytes : List ℕ) (place : ℕ) (f : Fields
   pub reads :
       stepIn number r provers′ verifiers′
       ≡ judged (ofField (formIn number) (seenIn number (f .read)) bytes place (numberAt bytes place))
-      (stage (adding (numbered (numberAt bytes place)) (seenIn number (f .read))) (withField bytes (numberAt bytes place) (viewOf number f provers verifiers)) (afterKey bytes (numberAt bytes place)))
+      (stage (adding (fieldOf (numberAt bytes place)) (seenIn number (f .read))) (withField bytes (numberAt bytes place) (viewOf number f provers verifiers)) (afterKey bytes (numberAt bytes place)))
   pub tidies : Tidy f provers verifiers → TidyStep r provers′ verifiers′
 
 -- What a field of a message without lists adds to the fields before it.

@@ -5,20 +5,20 @@ use mathlib.Core.List.{List, [], _∷_}
 use lib.Dec.{ltb}
 use lib.ListN.{drop}
 
--- What bytes say from their first on: a value and how many of them say it; or they end before it does; or ten of them each
--- announce more.
+-- The varint that bytes begin with: its value and how many of them it has; or they end before it does; or as many as it may have
+-- each announce more.
 pub data Said : Type 0 where
   says : (value width : ℕ) → Said
   cut : Said
   endless : Said
 
--- Seven low bits, and above them what the later bytes say.
+-- Seven low bits, and above them those of the later bytes.
 abbrev pub below : ℕ → Said → Said
 below low (says value width) = says (low + 128 * value) (suc width)
 below low cut = cut
 below low endless = endless
 
--- What at most n bytes say. The value is exact, however large.
+-- The varint in at most n bytes, `endless` if n bytes each announce more. The value is exact, however large.
 unfoldable pub said : ℕ → List ℕ → Said
 said zero bytes = endless
 said (suc n) [] = cut

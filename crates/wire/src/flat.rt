@@ -65,11 +65,7 @@ fn hello(
     );
     match read {
         Hello::Fault(refusal) => refused(refusal),
-        Hello::Read {
-            token,
-            provers: prover_count,
-            verifiers: verifier_count,
-        } => {
+        Hello::Read(token, prover_count, verifier_count) => {
             if hello_end < bytes.len() {
                 return refused(Refusal::UnexpectedField);
             }

@@ -27,13 +27,9 @@ pub enum Field {
     Fault(Refusal),
 }
 
-// What all fields hold.
+// What all fields hold: a token, and so many suites in each list.
 pub enum Hello {
-    Read {
-        token: Span,
-        provers: usize,
-        verifiers: usize,
-    },
+    Read(Span, usize, usize),
     Fault(Refusal),
 }
 
@@ -116,10 +112,8 @@ pub fn read_hello(
     provers: &mut [u32; 16],
     verifiers: &mut [u32; 16],
 ) -> Hello
-    requires { ⌜ start ≤ length (now bytes) ⌝ }
-    requires { ⌜ (now provers ≡ padded []) × (now verifiers ≡ padded []) ⌝ }
-    ensures { λ r. ⌜ helloIn r (now (provers .exit)) (now (verifiers .exit)) ≡ fieldsOf 1 (now (bytes .entry)) start ⌝ }
-    ensures { λ r. ⌜ HelloCounts r (now (provers .exit)) (now (verifiers .exit)) ⌝ }
+    requires { ⌜ (start ≤ length (now bytes)) × ((now provers ≡ padded []) × (now verifiers ≡ padded [])) ⌝ }
+    ensures { λ r. ⌜ (helloIn r (now (provers .exit)) (now (verifiers .exit)) ≡ fieldsOf 1 (now (bytes .entry)) start) × HelloCounts r (now (provers .exit)) (now (verifiers .exit)) ⌝ }
 {
     let mut token_read = false;
     let mut provers_read = false;
@@ -160,9 +154,5 @@ pub fn read_hello(
             }
         }
     }
-    Hello::Read {
-        token,
-        provers: prover_count,
-        verifiers: verifier_count,
-    }
+    Hello::Read(token, prover_count, verifier_count)
 }

@@ -2,7 +2,7 @@
 use mathlib.Core.Path.{ap, _∙_}
 use Prim.Native.Nat.{ℕ}
 use borrow.Author.Needs.{needs}
-use Rattle.capi.specs.Arrived.{eventIn}
+use Rattle.capi.specs.Arrived.{flatEventWith}
 use Rattle.capi.proofs.menhotrac_event_of.Statement.{statement}
 use Rattle.capi.proofs.menhotrac_event_of.Tie as tie
 
@@ -12,4 +12,4 @@ menhotrac-event-of-spec =
     (tie.spec
     (λ c κs. search needs)
     (λ c κs. search needs)
-    (λ c. let a = c .before .before .args in c .«event-in» .ensures ∙ ap (λ (code : ℕ). eventIn code (a .bit) (a .token)) (c .before .«code-of» .ensures)))
+    (λ c. let a = c .before .before .args in c .«event-in» .ensures ∙ ap (λ (code : ℕ). flatEventWith code (a .bit) (a .token)) (c .before .«code-of» .ensures)))

@@ -15,7 +15,7 @@ use Rattle.connection.specs.Also.{resultAlso}
 use Rattle.wire.specs.Message.{readingOf}
 use Rattle.wire.specs.Numbers.{entries}
 use Rattle.wire.specs.declared.flat.FlatMessage.{FlatMessage}
-use Rattle.inbound.specs.Arrival.{firstOf}
+use Rattle.inbound.specs.Arrival.{firstEntries}
 use Rattle.wire.proofs.Lengths.{provers-16, verifiers-16}
 use Rattle.inbound.specs.Received.{given, received}
 use Rattle.inbound.proofs.Arrived.{arrived-refused, refused-place, arrived-read, read-place, first-entries}
@@ -72,10 +72,10 @@ returns-2 c =
     let bytes = now (a .bytes) in
     let g = given (a .token) (a .«token-refusal») (now (a .«our-verifiers»)) (now (a .«our-provers»)) in
     let e = arrived-read bytes _ _ m (r .ensures .1 .1 .1 .0) none (recordIn (now (a .numbers))) g (now (a .cache)) in
-    let p : firstOf (m .provers) (r .last .1 .0) ≡ entries (m .provers) (r .last .1 .0) =
+    let p : firstEntries (m .provers) (r .last .1 .0) ≡ entries (m .provers) (r .last .1 .0) =
     first-entries (m .provers) _ (long-provers (c .before .before .before .before .before .before .before .before .before .before .before .before .before .before)) (r .ensures .1 .1 .1 .1 .0 .0)
     in
-    let v : firstOf (m .verifiers) (r .last .1 .1 .0) ≡ entries (m .verifiers) (r .last .1 .1 .0) =
+    let v : firstEntries (m .verifiers) (r .last .1 .1 .0) ≡ entries (m .verifiers) (r .last .1 .1 .0) =
     first-entries (m .verifiers) _ (long-verifiers (c .before .before .before .before .before .before .before .before .before .before .before .before .before .before)) (r .ensures .1 .1 .1 .1 .0 .1)
     in
     let call : ℕ → Event → (payload peerProvers peerVerifiers : List ℕ) → Result =
