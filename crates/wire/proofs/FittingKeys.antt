@@ -8,8 +8,9 @@ use lib.Dec.{eqb}
 use borrow.Author.Tests.{eq-eqb, eqb-true}
 use Rattle.wire.specs.Layout.{fieldNumber, wireType}
 use Rattle.wire.specs.Schema.{formIn, isUnknown, wrongType}
-use Rattle.wire.specs.Fields.{Marks, isRead, marks}
+use Rattle.wire.specs.Fields.{isRead}
 use Rattle.wire.specs.Steps.{hasPart}
+use Rattle.wire.specs.declared.keys.Marks.{Marks}
 use Rattle.wire.specs.declared.schema.Form.{Form}
 use Rattle.wire.specs.declared.schema.Form.the-variants.{Unknown, Bytes, Provers, Verifiers, Bit}
 use Rattle.wire.proofs.FieldSteps.{or-left, is-it}
@@ -85,53 +86,51 @@ is-met key k read e = by-tests (eqb key k) read refl e
     by-tests false t p e = absurd-bool (sym e)
 
 -- Where no test is met, the key does not fit.
-module _ (key : ℕ) where
-  pub hello-misfit : (token provers verifiers : Bool) → (eqb key 10 && not token) ≡ false → (eqb key 18 && not provers) ≡ false → (eqb key 26 && not verifiers) ≡ false →
-      Misfit 1 key (marks token provers verifiers false)
+module _ (key : ℕ) (read : Marks) where
+  pub hello-misfit : (eqb key 10 && not (read .bytes)) ≡ false → (eqb key 18 && not (read .provers)) ≡ false → (eqb key 26 && not (read .verifiers)) ≡ false → Misfit 1 key read
   unfolding formIn
-  hello-misfit token provers verifiers a b c u w =
-      by-number 1 key (marks token provers verifiers false) u w
-      (λ f. met key 10 token (f .key-is) (f .unread) a)
-      (λ f. met key 18 provers (f .key-is) (f .unread) b)
-      (λ f. met key 26 verifiers (f .key-is) (f .unread) c)
+  hello-misfit a b c u w =
+      by-number 1 key read u w
+      (λ f. met key 10 (read .bytes) (f .key-is) (f .unread) a)
+      (λ f. met key 18 (read .provers) (f .key-is) (f .unread) b)
+      (λ f. met key 26 (read .verifiers) (f .key-is) (f .unread) c)
 
-  module _ (bytes bit : Bool) where
-    abbrev read : Marks
-    read = marks bytes false false bit
+  pub data-misfit : (eqb key 10 && not (read .bytes)) ≡ false → (eqb key 16 && not (read .bit)) ≡ false → Misfit 8 key read
+  unfolding formIn
+  data-misfit a b u w =
+      by-number 8 key read u w
+      (λ f. met key 10 (read .bytes) (f .key-is) (f .unread) a)
+      (λ f. met key 16 (read .bit) (f .key-is) (f .unread) b)
+      (λ f. absurd-bool (f .known))
 
-    pub data-misfit : (eqb key 10 && not bytes) ≡ false → (eqb key 16 && not bit) ≡ false → Misfit 8 key read
-    unfolding formIn
-    data-misfit a b u w =
-        by-number 8 key read u w (λ f. met key 10 bytes (f .key-is) (f .unread) a) (λ f. met key 16 bit (f .key-is) (f .unread) b) (λ f. absurd-bool (f .known))
+  pub ack-misfit : (eqb key 8 && not (read .bit)) ≡ false → Misfit 9 key read
+  unfolding formIn
+  ack-misfit a u w =
+      by-number 9 key read u w (λ f. met key 8 (read .bit) (f .key-is) (f .unread) a) (λ f. absurd-bool (f .known)) (λ f. absurd-bool (f .known))
 
-    pub ack-misfit : (eqb key 8 && not bit) ≡ false → Misfit 9 key read
-    unfolding formIn
-    ack-misfit a u w =
-        by-number 9 key read u w (λ f. met key 8 bit (f .key-is) (f .unread) a) (λ f. absurd-bool (f .known)) (λ f. absurd-bool (f .known))
+  -- Of the messages below DATA three have a field.
+  no-field : (message : ℕ) → ((n : ℕ) → isUnknown (formIn message n) ≡ true) → Misfit message key read
+  no-field message none u w = absurd-bool (sym (none (fieldNumber key)) ∙ or-left (isUnknown (formIn message (fieldNumber key))) (isRead (formIn message (fieldNumber key)) read) u)
 
-    -- Of the messages below DATA three have a field.
-    no-field : (message : ℕ) → ((n : ℕ) → isUnknown (formIn message n) ≡ true) → Misfit message key read
-    no-field message none u w = absurd-bool (sym (none (fieldNumber key)) ∙ or-left (isUnknown (formIn message (fieldNumber key))) (isRead (formIn message (fieldNumber key)) read) u)
+  one-part : (message : ℕ) → formIn message 1 ≡ Bytes → isUnknown (formIn message 2) ≡ true → isUnknown (formIn message 3) ≡ true →
+      ((eqb key 10 && not (read .bytes)) && true) ≡ false → Misfit message key read
+  one-part message p q r a u w =
+      by-number message key read u w
+      (λ f. met key 10 (read .bytes) (f .key-is ∙ ap (λ (k : Form). keyOf k 1) p) (sym (ap (λ (k : Form). isRead k read) p) ∙ f .unread) (and-true (eqb key 10 && not (read .bytes)) a))
+      (λ f. absurd-bool (sym q ∙ f .known))
+      (λ f. absurd-bool (sym r ∙ f .known))
 
-    one-part : (message : ℕ) → formIn message 1 ≡ Bytes → isUnknown (formIn message 2) ≡ true → isUnknown (formIn message 3) ≡ true →
-        ((eqb key 10 && not bytes) && true) ≡ false → Misfit message key read
-    one-part message p q r a u w =
-        by-number message key read u w
-        (λ f. met key 10 bytes (f .key-is ∙ ap (λ (k : Form). keyOf k 1) p) (sym (ap (λ (k : Form). isRead k read) p) ∙ f .unread) (and-true (eqb key 10 && not bytes) a))
-        (λ f. absurd-bool (sym q ∙ f .known))
-        (λ f. absurd-bool (sym r ∙ f .known))
-
-    pub part-misfit : (message : ℕ) → 2 ≤ message → message ≤ 7 → ((eqb key 10 && not bytes) && hasPart message) ≡ false → Misfit message key read
-    unfolding formIn
-    part-misfit zero h k a = absurd (omega arith)
-    part-misfit (suc zero) h k a = absurd (omega arith)
-    part-misfit (suc (suc zero)) h k a = no-field 2 (λ n. refl)
-    part-misfit (suc (suc (suc zero))) h k a = no-field 3 (λ n. refl)
-    part-misfit (suc (suc (suc (suc zero)))) h k a = one-part 4 refl refl refl a
-    part-misfit (suc (suc (suc (suc (suc zero))))) h k a = no-field 5 (λ n. refl)
-    part-misfit (suc (suc (suc (suc (suc (suc zero)))))) h k a = one-part 6 refl refl refl a
-    part-misfit (suc (suc (suc (suc (suc (suc (suc zero))))))) h k a = one-part 7 refl refl refl a
-    part-misfit (suc (suc (suc (suc (suc (suc (suc (suc m)))))))) h k a = absurd (omega arith)
+  pub part-misfit : (message : ℕ) → 2 ≤ message → message ≤ 7 → ((eqb key 10 && not (read .bytes)) && hasPart message) ≡ false → Misfit message key read
+  unfolding formIn
+  part-misfit zero h k a = absurd (omega arith)
+  part-misfit (suc zero) h k a = absurd (omega arith)
+  part-misfit (suc (suc zero)) h k a = no-field 2 (λ n. refl)
+  part-misfit (suc (suc (suc zero))) h k a = no-field 3 (λ n. refl)
+  part-misfit (suc (suc (suc (suc zero)))) h k a = one-part 4 refl refl refl a
+  part-misfit (suc (suc (suc (suc (suc zero))))) h k a = no-field 5 (λ n. refl)
+  part-misfit (suc (suc (suc (suc (suc (suc zero)))))) h k a = one-part 6 refl refl refl a
+  part-misfit (suc (suc (suc (suc (suc (suc (suc zero))))))) h k a = one-part 7 refl refl refl a
+  part-misfit (suc (suc (suc (suc (suc (suc (suc (suc m)))))))) h k a = absurd (omega arith)
 
 -- A message below DATA that has a field has bytes at number 1.
 pub has-bytes : (message : ℕ) → hasPart message ≡ true → formIn message 1 ≡ Bytes

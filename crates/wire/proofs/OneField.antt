@@ -12,10 +12,11 @@ use Rattle.wire.specs.Fault.{leftmost, judged}
 use Rattle.wire.specs.Faults.{FieldNumbers, adding, ofContent}
 use Rattle.wire.specs.Message.{filled}
 use Rattle.wire.specs.Numbers.{refusalNumber, padded}
-use Rattle.wire.specs.Fields.{Fields, Marks, Step, Tidy, Unread, formCode, isForm, isRead, marked, misfitOf, seenIn, stage, stop, viewOf, withMark}
+use Rattle.wire.specs.Fields.{Fields, Step, Tidy, Unread, formCode, isForm, isRead, marked, misfitOf, seenIn, stage, stop, viewOf, withMark}
 use Rattle.wire.specs.Steps.{ContentStep, FieldStep, afterContent}
 use Rattle.wire.specs.declared.Refusal.{Refusal}
 use Rattle.wire.specs.declared.Refusal.the-variants.{UnexpectedField, WrongWireType}
+use Rattle.wire.specs.declared.keys.Marks.{Marks}
 use Rattle.wire.specs.declared.schema.Form.{Form}
 use Rattle.wire.specs.declared.schema.Form.the-variants.{Unknown, Bytes, Provers, Verifiers, Bit}
 use Rattle.wire.proofs.FieldSteps.{unexpected, wrongly-typed, announced, content-end}

@@ -13,19 +13,15 @@ use Rattle.wire.specs.Numbers.{refusalNumber, entries, padded}
 use Rattle.wire.specs.Parts.{Holds}
 use Rattle.wire.specs.declared.Refusal.{Refusal}
 use Rattle.wire.specs.declared.Refusal.the-variants.{UnexpectedField, WrongWireType}
+use Rattle.wire.specs.declared.keys.Marks.{Marks}
 use Rattle.wire.specs.declared.schema.Form.{Form}
 use Rattle.wire.specs.declared.schema.Form.the-variants.{Unknown, Bytes, Provers, Verifiers, Bit}
 
--- Which fields have been read, by their form: a message has one of each at most.
-pub record Marks : Type 0 where
-  pub bytes : Bool
-  pub provers : Bool
-  pub verifiers : Bool
-  pub bit : Bool
-
+-- Marks in their order.
 abbrev pub marks : (bytes provers verifiers bit : Bool) → Marks
 marks bytes provers verifiers bit = record { bytes = bytes; provers = provers; verifiers = verifiers; bit = bit }
 
+-- Whether the field of a form has been read: a message has one of each at most.
 abbrev pub isRead : Form → Marks → Bool
 isRead Unknown read = false
 isRead Bytes read = read .bytes

@@ -1,7 +1,7 @@
 -- What the private functions that read fields answer. No definition rests on this file.
 use mathlib.Core.Path.{_≡_}
 use Prim.Native.Nat.{ℕ, _+_}
-use mathlib.Core.Bool.{Bool, false, _||_}
+use mathlib.Core.Bool.{Bool, _||_}
 use mathlib.Core.List.{List, []}
 use lib.Dec.{eqb}
 use lib.ListN.{length}
@@ -13,7 +13,8 @@ use Rattle.wire.specs.Faults.{noNumbers, adding, fieldOf, ofContent, ofF
 use Rattle.wire.specs.Message.{Message, made, empty, filled, withField, withFields}
 use Rattle.wire.specs.Numbers.{refusalNumber, entries}
 use Rattle.wire.specs.Parts.{Holds}
-use Rattle.wire.specs.Fields.{Fields, Step, Tidy, TidyStep, fields, marked, marks, proceed, seenIn, stage, stepIn, stop, viewOf, withMark}
+use Rattle.wire.specs.Fields.{Fields, Step, Tidy, TidyStep, fields, marked, proceed, seenIn, stage, stepIn, stop, viewOf, withMark}
+use Rattle.wire.specs.declared.keys.Marks.{Marks}
 use Rattle.wire.specs.declared.plain.Field as plain
 use Rattle.wire.specs.declared.plain.Field.the-variants as plain-field
 use Rattle.wire.specs.declared.plain.Plain.{Plain}
@@ -74,21 +75,20 @@ abbrev pub hasPart : ℕ → Bool
 hasPart message = eqb message 4 || eqb message 6 || eqb message 7
 
 -- One field of a message without lists, with the marks before it.
-abbrev pub PlainStep : (message : ℕ) (bytes : List ℕ) (place : ℕ) (bytesRead bitRead : Bool) → plain.Field → Type 0
-PlainStep message bytes place bytesRead bitRead r =
-    (f : Fields) → f .read ≡ marks bytesRead false false bitRead → (provers verifiers : List ℕ) →
+abbrev pub PlainStep : (message : ℕ) (bytes : List ℕ) (place : ℕ) → Marks → plain.Field → Type 0
+PlainStep message bytes place read r =
+    (f : Fields) → f .read ≡ read → (provers verifiers : List ℕ) →
     FieldStep message bytes place f provers verifiers (plainStep r f) provers verifiers
 
 -- The same behind its key.
-abbrev pub PlainKey : (message key : ℕ) (bytes : List ℕ) (behindKey : ℕ) (bytesRead bitRead : Bool) → plain.Field → Type 0
-PlainKey message key bytes behindKey bytesRead bitRead r =
-    (place : ℕ) → numberAt bytes place ≡ value key behindKey → PlainStep message bytes place bytesRead bitRead r
+abbrev pub PlainKey : (message key : ℕ) (bytes : List ℕ) (behindKey : ℕ) → Marks → plain.Field → Type 0
+PlainKey message key bytes behindKey read r =
+    (place : ℕ) → numberAt bytes place ≡ value key behindKey → PlainStep message bytes place read r
 
 -- One field of a hello.
-abbrev pub HelloStep : (bytes : List ℕ) (place : ℕ) (tokenRead proversRead verifiersRead : Bool) (provers verifiers : List ℕ) → hello.Field → (provers′ verifiers′ : List ℕ) → Type 0
-HelloStep bytes place tokenRead proversRead verifiersRead provers verifiers r provers′ verifiers′ =
-    (f : Fields) → f .read ≡ marks tokenRead proversRead verifiersRead false →
-    FieldStep 1 bytes place f provers verifiers (helloStep r f) provers′ verifiers′
+abbrev pub HelloStep : (bytes : List ℕ) (place : ℕ) → Marks → (provers verifiers : List ℕ) → hello.Field → (provers′ verifiers′ : List ℕ) → Type 0
+HelloStep bytes place read provers verifiers r provers′ verifiers′ =
+    (f : Fields) → f .read ≡ read → FieldStep 1 bytes place f provers verifiers (helloStep r f) provers′ verifiers′
 
 -- The fields of a message from `start` to its end.
 unfoldable pub fieldsOf : (number : ℕ) (bytes : List ℕ) (start : ℕ) → Reading Message
@@ -100,9 +100,10 @@ plainIn number (of-plain.Read part bit) = readAs (made number (part .place) (par
 plainIn number (of-plain.Fault refusal) = refused (refusalNumber refusal)
 
 abbrev pub helloIn : Hello → (provers verifiers : List ℕ) → Reading Message
-helloIn (of-hello.Read token p v) provers verifiers = readAs (made 1 (token .place) (token .size) 0 (entries p provers) (entries v verifiers))
+helloIn (of-hello.Read held) provers verifiers =
+    readAs (made 1 (held .place) (held .size) 0 (entries (held .provers) provers) (entries (held .verifiers) verifiers))
 helloIn (of-hello.Fault refusal) provers verifiers = refused (refusalNumber refusal)
 
 abbrev pub HelloCounts : Hello → (provers verifiers : List ℕ) → Type 0
-HelloCounts (of-hello.Read token p v) provers verifiers = Holds p provers × Holds v verifiers
+HelloCounts (of-hello.Read held) provers verifiers = Holds (held .provers) provers × Holds (held .verifiers) verifiers
 HelloCounts (of-hello.Fault refusal) provers verifiers = Unit {0}

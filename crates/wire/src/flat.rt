@@ -65,7 +65,7 @@ fn hello(
     );
     match read {
         Hello::Fault(refusal) => refused(refusal),
-        Hello::Read(token, prover_count, verifier_count) => {
+        Hello::Read(held) => {
             if hello_end < bytes.len() {
                 return refused(Refusal::UnexpectedField);
             }
@@ -75,10 +75,10 @@ fn hello(
                 refusal: 0,
                 number: schema::HELLO,
                 bit: 0,
-                provers: prover_count,
-                verifiers: verifier_count,
-                place: token.place,
-                size: token.size,
+                provers: held.provers,
+                verifiers: held.verifiers,
+                place: held.place,
+                size: held.size,
             }
         }
     }

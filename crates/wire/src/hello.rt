@@ -8,10 +8,11 @@ ghost use Rattle.wire.specs.Fields.{Unread};
 ghost use Rattle.wire.specs.Steps.{Content, HelloCounts, HelloStep, ProversContent, VerifiersContent, fieldsOf, helloIn, helloStep};
 ghost use Rattle.wire.specs.declared.schema.Form.the-variants as form;
 use crate::Refusal;
-use crate::Span;
 use crate::block::Block;
 use crate::block::block_at;
 use crate::keys;
+use crate::keys::Marks;
+use crate::keys::NOTHING_READ;
 use crate::keys::misfit;
 use crate::list::Packed;
 use crate::list::packed_at;
@@ -27,13 +28,25 @@ pub enum Field {
     Fault(Refusal),
 }
 
-// What all fields hold: a token, and so many suites in each list.
-pub enum Hello {
-    Read(Span, usize, usize),
-    Fault(Refusal),
+// What all fields hold: where the token lies, and how many suites each list has.
+pub struct Held {
+    pub place: usize,
+    pub size: usize,
+    pub provers: usize,
+    pub verifiers: usize,
 }
 
-const NO_TOKEN: Span = Span { place: 0, size: 0 };
+const NOTHING_HELD: Held = Held {
+    place: 0,
+    size: 0,
+    provers: 0,
+    verifiers: 0,
+};
+
+pub enum Hello {
+    Read(Held),
+    Fault(Refusal),
+}
 
 fn token_at(bytes: &[u8], place: usize) -> Field
     ensures { λ r. ⌜ Content form.Bytes (now (bytes .entry)) place (helloStep r) ⌝ }
@@ -71,88 +84,67 @@ fn verifiers_at(bytes: &[u8], place: usize, verifiers: &mut [u32; 16]) -> Field
 fn next_field(
     bytes: &[u8],
     place: usize,
-    token_read: bool,
-    provers_read: bool,
-    verifiers_read: bool,
+    read: Marks,
     provers: &mut [u32; 16],
     verifiers: &mut [u32; 16],
 ) -> Field
-    requires { ⌜ Unread «provers_read» (now provers) × Unread «verifiers_read» (now verifiers) ⌝ }
-    ensures { λ r. ⌜ HelloStep (now (bytes .entry)) place «token_read» «provers_read» «verifiers_read» (now (provers .entry)) (now (verifiers .entry)) r (now (provers .exit)) (now (verifiers .exit)) ⌝ }
+    requires { ⌜ Unread (read .provers) (now provers) × Unread (read .verifiers) (now verifiers) ⌝ }
+    ensures { λ r. ⌜ HelloStep (now (bytes .entry)) place read (now (provers .entry)) (now (verifiers .entry)) r (now (provers .exit)) (now (verifiers .exit)) ⌝ }
 {
     let key = number(bytes, place);
     match key {
         Varint::Fault(refusal) => Field::Fault(refusal),
         Varint::Number(key, next) => {
-            if (key == keys::BYTES) & !token_read {
+            if (key == keys::BYTES) & !read.bytes {
                 return token_at(bytes, next);
             }
-            if (key == keys::PROVERS) & !provers_read {
+            if (key == keys::PROVERS) & !read.provers {
                 return provers_at(bytes, next, provers);
             }
-            if (key == keys::VERIFIERS) & !verifiers_read {
+            if (key == keys::VERIFIERS) & !read.verifiers {
                 return verifiers_at(bytes, next, verifiers);
             }
-            Field::Fault(misfit(
-                schema::HELLO,
-                key,
-                token_read,
-                provers_read,
-                verifiers_read,
-                false,
-            ))
+            Field::Fault(misfit(schema::HELLO, key, read))
         }
     }
 }
 
-// All fields from `start` to the end of the bytes. What was read is kept in locals, as in `read_plain`.
+// All fields from `start` to the end of the bytes.
 pub fn read_hello(
     bytes: &[u8],
     start: usize,
     provers: &mut [u32; 16],
     verifiers: &mut [u32; 16],
 ) -> Hello
-    requires { ⌜ (start ≤ length (now bytes)) × ((now provers ≡ padded []) × (now verifiers ≡ padded [])) ⌝ }
-    ensures { λ r. ⌜ (helloIn r (now (provers .exit)) (now (verifiers .exit)) ≡ fieldsOf 1 (now (bytes .entry)) start) × HelloCounts r (now (provers .exit)) (now (verifiers .exit)) ⌝ }
+    requires { ⌜ start ≤ length (now bytes) ⌝ }
+    requires { ⌜ (now provers ≡ padded []) × (now verifiers ≡ padded []) ⌝ }
+    ensures { λ r. ⌜ helloIn r (now (provers .exit)) (now (verifiers .exit)) ≡ fieldsOf 1 (now (bytes .entry)) start ⌝ }
+    ensures { λ r. ⌜ HelloCounts r (now (provers .exit)) (now (verifiers .exit)) ⌝ }
 {
-    let mut token_read = false;
-    let mut provers_read = false;
-    let mut verifiers_read = false;
-    let mut token = NO_TOKEN;
-    let mut prover_count = 0;
-    let mut verifier_count = 0;
+    let mut read = NOTHING_READ;
+    let mut held = NOTHING_HELD;
     let mut at = start;
     while at < bytes.len() {
-        let field = next_field(
-            bytes,
-            at,
-            token_read,
-            provers_read,
-            verifiers_read,
-            provers,
-            verifiers,
-        );
+        let field = next_field(bytes, at, read, provers, verifiers);
         match field {
             Field::Fault(refusal) => return Hello::Fault(refusal),
-            Field::Token(start, length) => {
-                token_read = true;
-                token = Span {
-                    place: start,
-                    size: length,
-                };
-                at = start + length;
+            Field::Token(place, size) => {
+                read.bytes = true;
+                held.place = place;
+                held.size = size;
+                at = place + size;
             }
             Field::Provers(count, next) => {
-                provers_read = true;
-                prover_count = count;
+                read.provers = true;
+                held.provers = count;
                 at = next;
             }
             Field::Verifiers(count, next) => {
-                verifiers_read = true;
-                verifier_count = count;
+                read.verifiers = true;
+                held.verifiers = count;
                 at = next;
             }
         }
     }
-    Hello::Read(token, prover_count, verifier_count)
+    Hello::Read(held)
 }

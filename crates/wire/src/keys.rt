@@ -1,6 +1,6 @@
 // The keys that fit, and why another does not.
 ghost use mathlib.Core.Path.{_≡_};
-ghost use Rattle.wire.specs.Fields.{isRead, marks, misfitOf};
+ghost use Rattle.wire.specs.Fields.{isRead, misfitOf};
 use crate::Refusal;
 use crate::schema::Form;
 use crate::schema::LENGTH_DELIMITED;
@@ -19,32 +19,39 @@ pub const DATA_BIT: u32 = 2 * WIRE_TYPES + VARINT;
 
 pub const ACK_BIT: u32 = WIRE_TYPES + VARINT;
 
-// Whether the field of a form has been read: a message has one of each at most.
-fn is_read(form: Form, bytes: bool, provers: bool, verifiers: bool, bit: bool) -> bool
-    ensures { λ r. ⌜ r ≡ isRead form (marks bytes provers verifiers bit) ⌝ }
+// Which fields have been read, by their form: a message has one of each at most.
+pub struct Marks {
+    pub bytes: bool,
+    pub provers: bool,
+    pub verifiers: bool,
+    pub bit: bool,
+}
+
+pub const NOTHING_READ: Marks = Marks {
+    bytes: false,
+    provers: false,
+    verifiers: false,
+    bit: false,
+};
+
+fn is_read(form: Form, read: Marks) -> bool
+    ensures { λ r. ⌜ r ≡ isRead form read ⌝ }
 {
     match form {
         Form::Unknown => false,
-        Form::Bytes => bytes,
-        Form::Provers => provers,
-        Form::Verifiers => verifiers,
-        Form::Bit => bit,
+        Form::Bytes => read.bytes,
+        Form::Provers => read.provers,
+        Form::Verifiers => read.verifiers,
+        Form::Bit => read.bit,
     }
 }
 
 // Why a key does not fit: its field is unknown or has been read, or else its wire type is wrong.
-pub fn misfit(
-    message: u32,
-    key: u32,
-    bytes: bool,
-    provers: bool,
-    verifiers: bool,
-    bit: bool,
-) -> Refusal
-    ensures { λ r. ⌜ r ≡ misfitOf message key (marks bytes provers verifiers bit) ⌝ }
+pub fn misfit(message: u32, key: u32, read: Marks) -> Refusal
+    ensures { λ r. ⌜ r ≡ misfitOf message key read ⌝ }
 {
     let form = form_in(message, key / WIRE_TYPES);
-    if is_unknown(form) | is_read(form, bytes, provers, verifiers, bit) {
+    if is_unknown(form) | is_read(form, read) {
         return Refusal::UnexpectedField;
     }
     Refusal::WrongWireType

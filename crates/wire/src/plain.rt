@@ -9,6 +9,8 @@ use crate::Span;
 use crate::block::Block;
 use crate::block::block_at;
 use crate::keys;
+use crate::keys::Marks;
+use crate::keys::NOTHING_READ;
 use crate::keys::misfit;
 use crate::schema;
 use crate::varint::Varint;
@@ -57,89 +59,79 @@ fn has_part(message: u32) -> bool
     (message == schema::DAT) | (message == schema::RA_PROVER) | (message == schema::RA_VERIFIER)
 }
 
-fn part_field(
-    message: u32,
-    key: u32,
-    bytes: &[u8],
-    next: usize,
-    bytes_read: bool,
-    bit_read: bool,
-) -> Field
+fn part_field(message: u32, key: u32, bytes: &[u8], next: usize, read: Marks) -> Field
     requires { ⌜ (2 ≤ message) × (message ≤ 7) ⌝ }
-    ensures { λ r. ⌜ PlainKey message key (now (bytes .entry)) next «bytes_read» «bit_read» r ⌝ }
+    ensures { λ r. ⌜ PlainKey message key (now (bytes .entry)) next read r ⌝ }
 {
-    if (key == keys::BYTES) & !bytes_read & has_part(message) {
+    if (key == keys::BYTES) & !read.bytes & has_part(message) {
         return bytes_at(bytes, next);
     }
-    Field::Fault(misfit(message, key, bytes_read, false, false, bit_read))
+    Field::Fault(misfit(message, key, read))
 }
 
-fn data_field(key: u32, bytes: &[u8], next: usize, bytes_read: bool, bit_read: bool) -> Field
-    ensures { λ r. ⌜ PlainKey 8 key (now (bytes .entry)) next «bytes_read» «bit_read» r ⌝ }
+fn data_field(key: u32, bytes: &[u8], next: usize, read: Marks) -> Field
+    ensures { λ r. ⌜ PlainKey 8 key (now (bytes .entry)) next read r ⌝ }
 {
-    if (key == keys::BYTES) & !bytes_read {
+    if (key == keys::BYTES) & !read.bytes {
         return bytes_at(bytes, next);
     }
-    if (key == keys::DATA_BIT) & !bit_read {
+    if (key == keys::DATA_BIT) & !read.bit {
         return bit_at(bytes, next);
     }
-    Field::Fault(misfit(schema::DATA, key, bytes_read, false, false, bit_read))
+    Field::Fault(misfit(schema::DATA, key, read))
 }
 
-fn ack_field(key: u32, bytes: &[u8], next: usize, bytes_read: bool, bit_read: bool) -> Field
-    ensures { λ r. ⌜ PlainKey 9 key (now (bytes .entry)) next «bytes_read» «bit_read» r ⌝ }
+fn ack_field(key: u32, bytes: &[u8], next: usize, read: Marks) -> Field
+    ensures { λ r. ⌜ PlainKey 9 key (now (bytes .entry)) next read r ⌝ }
 {
-    if (key == keys::ACK_BIT) & !bit_read {
+    if (key == keys::ACK_BIT) & !read.bit {
         return bit_at(bytes, next);
     }
-    Field::Fault(misfit(schema::ACK, key, bytes_read, false, false, bit_read))
+    Field::Fault(misfit(schema::ACK, key, read))
 }
 
 // One field: its key, and then what the key announces.
-fn next_field(message: u32, bytes: &[u8], place: usize, bytes_read: bool, bit_read: bool) -> Field
+fn next_field(message: u32, bytes: &[u8], place: usize, read: Marks) -> Field
     requires { ⌜ (2 ≤ message) × (message ≤ 9) ⌝ }
-    ensures { λ r. ⌜ PlainStep message (now (bytes .entry)) place «bytes_read» «bit_read» r ⌝ }
+    ensures { λ r. ⌜ PlainStep message (now (bytes .entry)) place read r ⌝ }
 {
     let key = number(bytes, place);
     match key {
         Varint::Fault(refusal) => Field::Fault(refusal),
         Varint::Number(key, next) => {
             if message < schema::DATA {
-                return part_field(message, key, bytes, next, bytes_read, bit_read);
+                return part_field(message, key, bytes, next, read);
             }
             if message == schema::DATA {
-                return data_field(key, bytes, next, bytes_read, bit_read);
+                return data_field(key, bytes, next, read);
             }
-            ack_field(key, bytes, next, bytes_read, bit_read)
+            ack_field(key, bytes, next, read)
         }
     }
 }
 
-// All fields from `start` to the end of the bytes. What was read is kept in locals: a struct would be copied in every turn.
+// All fields from `start` to the end of the bytes. Bytes and bit are kept apart: a struct of both would have padding, which
+// is copied in every turn.
 pub fn read_plain(message: u32, bytes: &[u8], start: usize) -> Plain
     requires { ⌜ (2 ≤ message) × (message ≤ 9) ⌝ }
     requires { ⌜ start ≤ length (now bytes) ⌝ }
     ensures { λ r. ⌜ plainIn message r ≡ fieldsOf message (now (bytes .entry)) start ⌝ }
 {
-    let mut bytes_read = false;
-    let mut bit_read = false;
+    let mut read = NOTHING_READ;
     let mut part = NO_PART;
     let mut bit = 0;
     let mut at = start;
     while at < bytes.len() {
-        let field = next_field(message, bytes, at, bytes_read, bit_read);
+        let field = next_field(message, bytes, at, read);
         match field {
             Field::Fault(refusal) => return Plain::Fault(refusal),
-            Field::Bytes(start, length) => {
-                bytes_read = true;
-                part = Span {
-                    place: start,
-                    size: length,
-                };
-                at = start + length;
+            Field::Bytes(place, size) => {
+                read.bytes = true;
+                part = Span { place, size };
+                at = place + size;
             }
             Field::Bit(value, next) => {
-                bit_read = true;
+                read.bit = true;
                 bit = value;
                 at = next;
             }

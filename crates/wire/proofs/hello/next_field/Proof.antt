@@ -1,10 +1,9 @@
 -- `wire::hello::next_field` meets its contract.
 use mathlib.Core.Path.{refl, sym, ap, _∙_}
-use mathlib.Core.Bool.{false}
 use borrow.Author.Needs.{needs}
 use Rattle.wire.specs.Parts.{numberOf}
 use Rattle.wire.specs.Schema.{formIn}
-use Rattle.wire.specs.Fields.{isRead, marks}
+use Rattle.wire.specs.Fields.{isRead}
 use Rattle.wire.specs.declared.schema.Form.the-variants.{Bytes, Provers, Verifiers}
 use Rattle.wire.proofs.FittingKeys.{hello-misfit, is-met}
 use Rattle.wire.proofs.OneField.{key-faulty, key-met, key-refused}
@@ -14,25 +13,25 @@ use Rattle.wire.proofs.hello.next_field.Tie as tie
 returns : tie.Need-returns
 unfolding formIn
 returns c =
-    let a = c .before .before .before .before .before .before .before .args in
-    let e = sym (c .before .before .before .before .before .number .ensures) ∙ ap numberOf (c .before .before .before .key2 .given .1) in
-    let t = is-met _ 10 (a .«token-read») (c .before .if1 .taken) in
+    let a = c .before .before .before .before .before .before .before .before .args in
+    let e = sym (c .before .before .before .before .before .before .number .ensures) ∙ ap numberOf (c .before .before .before .before .key2 .given .1) in
+    let t = is-met _ 10 (a .read .bytes) (c .before .if1 .taken) in
     λ f m. key-met 1 (a .bytes .now) (a .place) f (a .provers .now) (a .verifiers .now) _ _ e 10 (t .0) Bytes refl refl refl (ap (isRead Bytes) m ∙ t .1) _ _ _ (c .«token-at» .ensures f (a .provers .now) (a .verifiers .now))
 
 returns-2 : tie.Need-returns-2
 unfolding formIn
 returns-2 c =
-    let a = c .before .before .before .before .before .before .before .before .before .args in
-    let e = sym (c .before .before .before .before .before .before .before .number .ensures) ∙ ap numberOf (c .before .before .before .before .before .key2 .given .1) in
-    let t = is-met _ 18 (a .«provers-read») (c .before .before .if2 .taken) in
+    let a = c .before .before .before .before .before .before .before .before .before .before .before .args in
+    let e = sym (c .before .before .before .before .before .before .before .before .before .number .ensures) ∙ ap numberOf (c .before .before .before .before .before .before .before .key2 .given .1) in
+    let t = is-met _ 18 (a .read .provers) (c .before .before .if2 .taken) in
     λ f m. key-met 1 (a .bytes .now) (a .place) f (a .provers .now) (a .verifiers .now) _ _ e 18 (t .0) Provers refl refl refl (ap (isRead Provers) m ∙ t .1) _ _ _ (c .«provers-at» .ensures f (a .provers .now) (a .verifiers .now))
 
 returns-3 : tie.Need-returns-3
 unfolding formIn
 returns-3 c =
-    let a = c .before .before .before .before .before .before .before .before .before .before .args in
-    let e = sym (c .before .before .before .before .before .before .before .before .number .ensures) ∙ ap numberOf (c .before .before .before .before .before .before .key2 .given .1) in
-    let t = is-met _ 26 (a .«verifiers-read») (c .before .before .if3 .taken) in
+    let a = c .before .before .before .before .before .before .before .before .before .before .before .before .before .args in
+    let e = sym (c .before .before .before .before .before .before .before .before .before .before .before .number .ensures) ∙ ap numberOf (c .before .before .before .before .before .before .before .before .before .key2 .given .1) in
+    let t = is-met _ 26 (a .read .verifiers) (c .before .before .if3 .taken) in
     λ f m. key-met 1 (a .bytes .now) (a .place) f (a .provers .now) (a .verifiers .now) _ _ e 26 (t .0) Verifiers refl refl refl (ap (isRead Verifiers) m ∙ t .1) _ _ _ (c .«verifiers-at» .ensures f (a .provers .now) (a .verifiers .now))
 
 returns-4 : tie.Need-returns-4
@@ -42,11 +41,18 @@ returns-4 c =
 
 returns-5 : tie.Need-returns-5
 returns-5 c =
-    let a = c .before .before .before .before .before .before .before .before .before .args in
-    let e = sym (c .before .before .before .before .before .before .before .number .ensures) ∙ ap numberOf (c .before .before .before .before .before .key2 .given .1) in
+    let a = c .before .before .before .before .before .before .before .before .before .before .before .before .args in
+    let e = sym (c .before .before .before .before .before .before .before .before .before .before .number .ensures) ∙ ap numberOf (c .before .before .before .before .before .before .before .before .key2 .given .1) in
     λ f m.
-    key-refused 1 (a .bytes .now) (a .place) f (a .provers .now) (a .verifiers .now) _ _ e (marks (a .«token-read») (a .«provers-read») (a .«verifiers-read») false) m
-    (hello-misfit _ (a .«token-read») (a .«provers-read») (a .«verifiers-read») (c .before .before .before .if1 .left) (c .before .before .if2 .left) (c .before .if3 .left)) _ (c .misfit .ensures)
+    key-refused 1 (a .bytes .now) (a .place) f (a .provers .now) (a .verifiers .now) _ _ e (a .read) m
+    (hello-misfit _ (a .read) (c .before .before .before .before .before .if1 .left) (c .before .before .before .if2 .left) (c .before .if3 .left)) _ (c .misfit .ensures)
+
+-- A list is read into once, and holds zeros until then.
+provers-at-requires : tie.Need-provers-at-requires
+provers-at-requires c κs = c .before .before .before .before .before .before .before .before .before .before .pre .0 (is-met (c .before .before .before .before .before .before .key2 .given .0 .0) 18 (c .before .before .before .before .before .before .before .before .before .before .args .read .provers) (c .before .if2 .taken) .1)
+
+verifiers-at-requires : tie.Need-verifiers-at-requires
+verifiers-at-requires c κs = c .before .before .before .before .before .before .before .before .before .before .before .before .pre .1 (is-met (c .before .before .before .before .before .before .before .before .key2 .given .0 .0) 26 (c .before .before .before .before .before .before .before .before .before .before .before .before .args .read .verifiers) (c .before .if3 .taken) .1)
 
 pub next-field-spec : {M : Type 1} → statement M
 next-field-spec =
@@ -57,9 +63,9 @@ next-field-spec =
     (λ c. search needs)
     (λ c κs. search needs)
     returns
-    (λ c κs. c .before .before .before .before .before .before .before .before .pre .0 (is-met (c .before .before .before .before .key2 .given .0 .0) 18 (c .before .before .before .before .before .before .before .before .args .«provers-read») (c .before .if2 .taken) .1))
+    provers-at-requires
     returns-2
-    (λ c κs. c .before .before .before .before .before .before .before .before .before .pre .1 (is-met (c .before .before .before .before .before .key2 .given .0 .0) 26 (c .before .before .before .before .before .before .before .before .before .args .«verifiers-read») (c .before .if3 .taken) .1))
+    verifiers-at-requires
     returns-3
     (λ c κs. search needs)
     returns-4

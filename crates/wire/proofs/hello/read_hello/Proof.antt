@@ -1,31 +1,29 @@
 -- `wire::hello::read_hello` meets its contract.
 use mathlib.Core.Path.{_≡_, refl, ap, subst, _∙_}
-use mathlib.Core.Bool.{Bool, false}
 use mathlib.Core.List.{List}
 use Prim.Native.Nat.{ℕ, _-_, _<_, _≤_}
 use native.Mathlib.Omega.{arith}
 use lib.ListN.{length}
 use borrow.Author.Needs.{needs}
-use Rattle.wire.specs.Fields.{Fields, Step, Tidy, TidyStep, fields, marks, proceed}
+use Rattle.wire.specs.Fields.{Fields, Step, Tidy, TidyStep, fields, proceed}
 use Rattle.wire.specs.Steps.{helloStep}
-use Rattle.wire.specs.declared.Span.{Span}
 use Rattle.wire.specs.declared.hello.Field.{Field}
+use Rattle.wire.specs.declared.hello.Held.{Held}
+use Rattle.wire.specs.declared.keys.Marks.{Marks}
 use Rattle.wire.proofs.Onward.{Onward, begins, ends, stops, further, goes-on, tidy-first}
 use Rattle.wire.proofs.hello.read_hello.Statement.{statement}
 use Rattle.wire.proofs.hello.read_hello.Tie as tie
 
 -- What the locals hold.
-abbrev state : (tokenRead proversRead verifiersRead : Bool) → Span → (provers verifiers : ℕ) → Fields
-state tokenRead proversRead verifiersRead token provers verifiers =
-    fields (marks tokenRead proversRead verifiersRead false) (token .place) (token .size) 0 provers verifiers
+abbrev state : Marks → Held → Fields
+state read held = fields read (held .place) (held .size) 0 (held .provers) (held .verifiers)
 
 abbrev Inv-loop : tie.InvT-loop
-Inv-loop bytes start provers₀ verifiers₀ tokenRead₀ proversRead₀ verifiersRead₀ token₀ proverCount₀ verifierCount₀ at₀ provers verifiers tokenRead proversRead verifiersRead token proverCount verifierCount at =
-    let f = state tokenRead proversRead verifiersRead token proverCount verifierCount in
-    Onward 1 bytes start f provers verifiers at × Tidy f provers verifiers
+Inv-loop bytes start provers₀ verifiers₀ read₀ held₀ at₀ provers verifiers read held at =
+    Onward 1 bytes start (state read held) provers verifiers at × Tidy (state read held) provers verifiers
 
 abbrev μ-loop : tie.MeasureT-loop
-μ-loop bytes start provers₀ verifiers₀ tokenRead₀ proversRead₀ verifiersRead₀ token₀ proverCount₀ verifierCount₀ at₀ provers verifiers tokenRead proversRead verifiersRead token proverCount verifierCount at = length bytes - at
+μ-loop bytes start provers₀ verifiers₀ read₀ held₀ at₀ provers verifiers read held at = length bytes - at
 
 loop-holds : tie.Need-loop-holds Inv-loop μ-loop
 loop-holds c =
@@ -36,13 +34,13 @@ loop-holds c =
 abbrev before : (c : tie.After-next-field Inv-loop μ-loop) → Fields
 before c =
     let l = c .before .before .before .before .loop in
-    state (l .«token-read») (l .«provers-read») (l .«verifiers-read») (l .token) (l .«prover-count») (l .«verifier-count»)
+    state (l .read) (l .held)
 
 abbrev provers-after : (c : tie.After-next-field Inv-loop μ-loop) → List ℕ
-provers-after c = c .«next-field» .last .1 .1 .1 .1 .1 .0
+provers-after c = c .«next-field» .last .1 .1 .1 .0
 
 abbrev verifiers-after : (c : tie.After-next-field Inv-loop μ-loop) → List ℕ
-verifiers-after c = c .«next-field» .last .1 .1 .1 .1 .1 .1 .0
+verifiers-after c = c .«next-field» .last .1 .1 .1 .1 .0
 
 stepped : (c : tie.After-next-field Inv-loop μ-loop) (r : Field) → c .«next-field» .result ≡ r → helloStep (c .«next-field» .result) (before c) ≡ helloStep r (before c)
 stepped c r e = ap (λ (q : Field). helloStep q (before c)) e
@@ -94,7 +92,7 @@ returns-2 : tie.Need-returns-2 Inv-loop μ-loop
 returns-2 c =
     let l = c .before .loop in
     let t = l .inv .1 in
-    (ends _ _ _ (state (l .«token-read») (l .«provers-read») (l .«verifiers-read») (l .token) (l .«prover-count») (l .«verifier-count»)) _ _ _ (l .inv .0) (c .«loop-test» .left), (t .0 .0, t .1 .0))
+    (ends _ _ _ (state (l .read) (l .held)) _ _ _ (l .inv .0) (c .«loop-test» .left), (t .0 .0, t .1 .0))
 
 pub read-hello-spec : {M : Type 1} → statement M
 read-hello-spec =

@@ -1,9 +1,8 @@
 -- `wire::plain::ack_field` meets its contract.
 use mathlib.Core.Path.{refl, ap, _∙_}
-use mathlib.Core.Bool.{false}
 use borrow.Author.Needs.{needs}
 use Rattle.wire.specs.Schema.{formIn}
-use Rattle.wire.specs.Fields.{isRead, marks}
+use Rattle.wire.specs.Fields.{isRead}
 use Rattle.wire.specs.Steps.{plainStep}
 use Rattle.wire.specs.declared.schema.Form.the-variants.{Bit}
 use Rattle.wire.proofs.FittingKeys.{ack-misfit, is-met}
@@ -14,17 +13,17 @@ use Rattle.wire.proofs.plain.ack_field.Tie as tie
 returns : tie.Need-returns
 unfolding formIn
 returns c =
-    let a = c .before .before .before .args in
-    let t = is-met (a .key) 8 (a .«bit-read») (c .before .if1 .taken) in
+    let a = c .before .before .before .before .args in
+    let t = is-met (a .key) 8 (a .read .bit) (c .before .if1 .taken) in
     λ place e f m provers verifiers.
     key-met 9 (a .bytes .now) place f provers verifiers _ _ e 8 (t .0) Bit refl refl refl (ap (isRead Bit) m ∙ t .1) _ _ _ (c .«bit-at» .ensures f provers verifiers)
 
 returns-2 : tie.Need-returns-2
 returns-2 c =
-    let a = c .before .before .before .args in
+    let a = c .before .before .before .before .args in
     λ place e f m provers verifiers.
-    key-refused 9 (a .bytes .now) place f provers verifiers _ _ e (marks (a .«bytes-read») false false (a .«bit-read»)) m
-    (ack-misfit (a .key) (a .«bytes-read») (a .«bit-read») (c .before .if1 .left)) _ (c .misfit .ensures)
+    key-refused 9 (a .bytes .now) place f provers verifiers _ _ e (a .read) m
+    (ack-misfit (a .key) (a .read) (c .before .if1 .left)) _ (c .misfit .ensures)
 
 pub ack-field-spec : {M : Type 1} → statement M
 ack-field-spec = tie.close (tie.spec (λ c κs. search needs) returns (λ c κs. search needs) returns-2)

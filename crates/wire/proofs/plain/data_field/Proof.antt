@@ -1,9 +1,8 @@
 -- `wire::plain::data_field` meets its contract.
 use mathlib.Core.Path.{refl, ap, _∙_}
-use mathlib.Core.Bool.{false}
 use borrow.Author.Needs.{needs}
 use Rattle.wire.specs.Schema.{formIn}
-use Rattle.wire.specs.Fields.{isRead, marks}
+use Rattle.wire.specs.Fields.{isRead}
 use Rattle.wire.specs.Steps.{plainStep}
 use Rattle.wire.specs.declared.schema.Form.the-variants.{Bytes, Bit}
 use Rattle.wire.proofs.FittingKeys.{data-misfit, is-met}
@@ -14,25 +13,25 @@ use Rattle.wire.proofs.plain.data_field.Tie as tie
 returns : tie.Need-returns
 unfolding formIn
 returns c =
-    let a = c .before .before .before .args in
-    let t = is-met (a .key) 10 (a .«bytes-read») (c .before .if1 .taken) in
+    let a = c .before .before .before .before .args in
+    let t = is-met (a .key) 10 (a .read .bytes) (c .before .if1 .taken) in
     λ place e f m provers verifiers.
     key-met 8 (a .bytes .now) place f provers verifiers _ _ e 10 (t .0) Bytes refl refl refl (ap (isRead Bytes) m ∙ t .1) _ _ _ (c .«bytes-at» .ensures f provers verifiers)
 
 returns-2 : tie.Need-returns-2
 unfolding formIn
 returns-2 c =
-    let a = c .before .before .before .before .args in
-    let t = is-met (a .key) 16 (a .«bit-read») (c .before .if2 .taken) in
+    let a = c .before .before .before .before .before .before .args in
+    let t = is-met (a .key) 16 (a .read .bit) (c .before .if2 .taken) in
     λ place e f m provers verifiers.
     key-met 8 (a .bytes .now) place f provers verifiers _ _ e 16 (t .0) Bit refl refl refl (ap (isRead Bit) m ∙ t .1) _ _ _ (c .«bit-at» .ensures f provers verifiers)
 
 returns-3 : tie.Need-returns-3
 returns-3 c =
-    let a = c .before .before .before .before .args in
+    let a = c .before .before .before .before .before .before .args in
     λ place e f m provers verifiers.
-    key-refused 8 (a .bytes .now) place f provers verifiers _ _ e (marks (a .«bytes-read») false false (a .«bit-read»)) m
-    (data-misfit (a .key) (a .«bytes-read») (a .«bit-read») (c .before .before .if1 .left) (c .before .if2 .left)) _ (c .misfit .ensures)
+    key-refused 8 (a .bytes .now) place f provers verifiers _ _ e (a .read) m
+    (data-misfit (a .key) (a .read) (c .before .before .before .if1 .left) (c .before .if2 .left)) _ (c .misfit .ensures)
 
 pub data-field-spec : {M : Type 1} → statement M
 data-field-spec =

@@ -17,7 +17,7 @@ returns c =
 returns-2 : tie.Need-returns-2
 returns-2 c =
     let a = c .before .before .before .before .before .before .before .before .args in
-    subst (λ (m : ℕ). PlainStep m (a .bytes .now) (a .place) (a .«bytes-read») (a .«bit-read») (c .«data-field» .result)) (sym (c .before .if2 .taken))
+    subst (λ (m : ℕ). PlainStep m (a .bytes .now) (a .place) (a .read) (c .«data-field» .result)) (sym (c .before .if2 .taken))
     (c .«data-field» .ensures (a .place) (sym (c .before .before .before .before .before .before .number .ensures) ∙ ap numberOf (c .before .before .before .before .key2 .given .1)))
 
 returns-3 : tie.Need-returns-3
@@ -30,7 +30,7 @@ returns-4 c =
     let b = c .before .before .before .before .before .before .before .before in
     let a = b .args in
     let nine : 9 ≡ a .message = omega (arith, c .before .if2 .left, c .before .before .if1 .left, b .pre .1) in
-    subst (λ (m : ℕ). PlainStep m (a .bytes .now) (a .place) (a .«bytes-read») (a .«bit-read») (c .«ack-field» .result)) nine
+    subst (λ (m : ℕ). PlainStep m (a .bytes .now) (a .place) (a .read) (c .«ack-field» .result)) nine
     (c .«ack-field» .ensures (a .place) (sym (c .before .before .before .before .before .before .number .ensures) ∙ ap numberOf (c .before .before .before .before .key2 .given .1)))
 
 pub next-field-spec : {M : Type 1} → statement M
