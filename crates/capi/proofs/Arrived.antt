@@ -1,10 +1,7 @@
 -- A message given to the step by the exports is one given to it by `inbound`.
 use mathlib.Core.Path.{_≡_, refl, sym, ap, _∙_}
-use mathlib.Core.Bool.{_||_, cond}
-use mathlib.Core.List.{List}
 use Prim.Native.Nat.{ℕ, zero, suc}
 use native.Mathlib.Omega.{arith}
-use lib.Dec.{eqb}
 use borrow.Author.Tests.{ne-eqb}
 use Rattle.connection.specs.Also.{resultAlso}
 use Rattle.flat.specs.Flat.{recordIn}

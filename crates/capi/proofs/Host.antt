@@ -14,7 +14,7 @@ use Rattle.protocol.specs.Agreement.{AllAgree}
 use Rattle.protocol.specs.Block.{partOf}
 use Rattle.protocol.specs.History.{first}
 use Rattle.protocol.specs.Run.{resultsOf}
-use Rattle.protocol.specs.Step.{Result, refusalOf, cacheAfter, decided, resultWith, resultOf, unchanged}
+use Rattle.protocol.specs.Step.{refusalOf, cacheAfter, decided, resultWith, resultOf, unchanged}
 use Rattle.protocol.specs.declared.Answer.the-variants.{Refused}
 use Rattle.protocol.specs.declared.Outcome.{Outcome}
 use Rattle.record.specs.Limits.{limits}

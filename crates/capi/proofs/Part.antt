@@ -19,7 +19,6 @@ use Rattle.protocol.specs.Orders as order
 use Rattle.protocol.specs.Step.{Result, refusalOf, stepOf, cacheAfter, resultWith, resultOf, unchanged}
 use Rattle.protocol.specs.declared.Answer.the-variants.{Refused}
 use Rattle.protocol.specs.declared.Actions.{Actions}
-use Rattle.protocol.specs.declared.Outcome.{Outcome}
 use Rattle.capi.specs.Part.{sliceBy, Within, partIn}
 use Rattle.protocol.proofs.Blocks.{front-of}
 use Rattle.protocol.proofs.Moved.{ordered}

@@ -1,15 +1,13 @@
 -- A message that was read, as numbers, and the call that it is.
 use mathlib.Core.Path.{_≡_, refl, sym, ap, _∙_}
-use mathlib.Core.Bool.{cond}
-use mathlib.Core.List.{List, [], _∷_}
+use mathlib.Core.List.{List, []}
 use Prim.Native.Nat.{ℕ, zero, suc, _<_, _≤_}
 use native.Mathlib.Omega.{arith}
-use lib.Dec.{eqb}
-use lib.ListN.{length, getD, take}
+use lib.ListN.{length}
 use borrow.Author.Tests.{eq-eqb, ne-eqb, le-ltb}
 use Rattle.connection.specs.Also.{resultAlso}
 use Rattle.event.specs.Call.{callOf}
-use Rattle.protocol.specs.Step.{Result, resultWith, unchanged}
+use Rattle.protocol.specs.Step.{resultWith, unchanged}
 use Rattle.protocol.specs.declared.Answer.the-variants.{Refused}
 use Rattle.record.specs.declared.Connection.{Connection}
 use Rattle.wire.proofs.Lengths.{all-there}

@@ -3,7 +3,7 @@ ghost use mathlib.Core.Path.{_≡_};
 ghost use Rattle.flat.specs.Flat.{recordIn, slotsOf};
 ghost use Rattle.wire.specs.Message.{readingOf};
 ghost use Rattle.inbound.specs.Arrival.{alsoOf, codeOf, eventOf, eventWith, firstEntries};
-ghost use Rattle.inbound.specs.Received.{Given, given, placeIn, received};
+ghost use Rattle.inbound.specs.Received.{given, placeIn, received};
 use connection::Answer;
 use connection::Event;
 use connection::codes;

@@ -1,23 +1,23 @@
 -- How a message is read from field to field.
-use mathlib.Core.Path.{_≡_, refl, sym, ap, subst, _∙_}
-use mathlib.Core.Bool.{Bool, true, false, cond, not, _&&_, _||_}
-use mathlib.Core.List.{List, [], _∷_, _++_}
-use Prim.Native.Nat.{ℕ, zero, suc, _+_, _-_, _*_, _/_, _%_, _<_, _≤_}
+use mathlib.Core.Path.{_≡_, refl, sym}
+use mathlib.Core.Bool.{Bool, true, false, cond, not, _||_}
+use mathlib.Core.List.{List, _∷_, _++_}
+use Prim.Native.Nat.{ℕ, zero, suc, _+_, _-_, _<_, _≤_}
 use native.Mathlib.Omega.{arith}
 use lib.Dec.{eqb, ltb}
 use borrow.Author.Tests.{eqb-true}
 use lib.ListN.{length, take}
 use lib.Seq.{length-take-le}
-use Rattle.wire.specs.Varint.{Number, value, fault, numberAt, asBit, bitAt}
-use Rattle.wire.specs.Layout.{Block, block, faulty, blockAt, afterBlock, afterNumber, afterKey, places, fieldNumber, wireType, fieldsFrom, entriesFrom}
+use Rattle.wire.specs.Varint.{Number, value, fault, numberAt, asBit}
+use Rattle.wire.specs.Layout.{Block, block, faulty, blockAt, afterBlock, afterNumber, afterKey, places, fieldNumber, wireType, entriesFrom}
 use Rattle.wire.specs.Schema.{isUnknown, wrongType}
-use Rattle.wire.specs.Fault.{Fault, at, faultIf, orElse, leftmost, Reading, readAs, refused, judged}
-use Rattle.wire.specs.Faults.{FieldNumbers, adding, fieldOf, ofNumber, ofList, ofBytes, ofEntries, ofContent, ofKey, ofField, ofFields}
+use Rattle.wire.specs.Fault.{Fault, at, faultIf, orElse, leftmost, refused, judged}
+use Rattle.wire.specs.Faults.{FieldNumbers, adding, fieldOf, ofNumber, ofList, ofBytes, ofEntries, ofContent, ofField, ofFields}
 use Rattle.wire.specs.Steps.{afterContent}
 use Rattle.wire.specs.declared.schema.Form.{Form}
 use Rattle.wire.specs.declared.schema.Form.the-variants.{Unknown, Bytes, Provers, Verifiers, Bit}
-use Rattle.wire.proofs.Order.{Bounds, Between, widen, joined, not-before}
-use Rattle.wire.proofs.Places.{Stands, stands, BlockStands, block-stands, at-end, one-more}
+use Rattle.wire.proofs.Order.{Between, widen, joined, not-before}
+use Rattle.wire.proofs.Places.{Stands, stands, BlockStands, block-stands}
 use Rattle.wire.proofs.Lists.{entries-between}
 use Rattle.wire.proofs.Forms.{absurd-bool}
 

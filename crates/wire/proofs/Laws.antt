@@ -1,18 +1,18 @@
 -- The laws that pin the definition of reading.
-use mathlib.Core.Path.{_≡_, refl, sym, ap, subst, _∙_}
+use mathlib.Core.Path.{_≡_, refl, sym, ap, subst}
 use mathlib.Core.Bool.{Bool, true, false, cond, _&&_, _||_}
 use mathlib.Core.List.{List, [], _∷_, List·Memᴰ, List·Memᴰ·head, List·Memᴰ·tail, List·Memᴰ·not-nil, List·Memᴰ·cases-cons}
 use mathlib.Core.Logic.{⊎-elim}
 use mathlib.Core.Option.{Option, none, some, Option·some-injective}
-use Prim.Native.Nat.{ℕ, _+_, _<_, _≤_}
+use Prim.Native.Nat.{ℕ, _+_, _≤_}
 use native.Mathlib.Omega.{arith}
 use lib.Dec.{eqb, ltb}
 use lib.ListN.{length, take}
 use lib.Seq.{length-take-le}
 use borrow.Author.Tests.{ltb-true, ltb-false, eqb-true, eqb-false}
-use Rattle.wire.specs.Fault.{Fault, before, firstOf, leftmost, Reading, readAs, refused, byFirst, judged}
+use Rattle.wire.specs.Fault.{Fault, before, firstOf, leftmost, Reading, readAs, refused, byFirst}
 use Rattle.wire.specs.Faults.{faultsOf}
-use Rattle.wire.specs.Laws.{FirstIn, RefusedByFirst, MessageFaultless, PartLies}
+use Rattle.wire.specs.Laws.{RefusedByFirst, MessageFaultless, PartLies}
 use Rattle.wire.specs.Layout.{Block, block, faulty, blockAt, fieldsFrom, fieldNumber}
 use Rattle.wire.specs.Message.{Message, empty, startIn, sizeIn, filled, withField, withFields, messageIn, messageBy, messageOf, readingOf}
 use Rattle.wire.specs.Schema.{formIn}

@@ -1,19 +1,19 @@
 -- How a packed list is read from entry to entry.
-use mathlib.Core.Path.{_≡_, refl, sym, ap, subst, _∙_}
+use mathlib.Core.Path.{_≡_, refl, ap, subst, _∙_}
 use mathlib.Core.Bool.{Bool, true, false, cond}
 use mathlib.Core.List.{List, [], _∷_, _++_, append-assoc, append-nil}
 use Prim.Native.Nat.{ℕ, zero, suc, _+_, _-_, _*_, _<_, _≤_}
 use native.Mathlib.Omega.{arith}
 use lib.Dec.{ltb}
-use lib.ListN.{length, take, set, replicate, length-append, length-replicate}
+use lib.ListN.{length, take, set, length-append, length-replicate}
 use Rattle.wire.specs.Varint.{Number, value, fault, numberAt}
 use Rattle.wire.specs.Parts.{mapped, listed, listFrom, packedAt}
-use Rattle.wire.specs.Layout.{block, faulty, blockAt, places, partsFrom, afterNumber, entriesFrom}
-use Rattle.wire.specs.Fault.{Fault, at, leftmost, Reading, readAs, refused, judged}
+use Rattle.wire.specs.Layout.{block, faulty, blockAt, places, afterNumber, entriesFrom}
+use Rattle.wire.specs.Fault.{at, leftmost, readAs, refused, judged}
 use Rattle.wire.specs.Faults.{ofNumber, ofEntries}
 use Rattle.wire.specs.Message.{suitesFrom}
 use Rattle.wire.specs.Numbers.{entries, padded}
-use Rattle.wire.proofs.Order.{Bounds, Between, widen, joined, not-before, append-refused, judged-mapped}
+use Rattle.wire.proofs.Order.{Between, widen, joined, not-before, append-refused, judged-mapped}
 use Rattle.wire.proofs.Places.{Stands, stands, at-end, one-more}
 
 module _ (list : List ℕ) where

@@ -2,8 +2,7 @@
 use mathlib.Core.Path.{_≡_, refl, sym, ap, subst, _∙_}
 use mathlib.Core.Bool.{Bool, true, false, cond, _||_}
 use mathlib.Core.List.{List}
-use Prim.Native.Nat.{ℕ, _+_, _*_, _≤_}
-use native.Mathlib.Omega.{arith}
+use Prim.Native.Nat.{ℕ}
 use lib.Dec.{eqb}
 use Rattle.wire.specs.Varint.{value, fault, numberAt}
 use Rattle.wire.specs.Layout.{fieldNumber, wireType}
@@ -11,8 +10,8 @@ use Rattle.wire.specs.Schema.{formIn, isUnknown, wrongType}
 use Rattle.wire.specs.Fault.{leftmost, judged}
 use Rattle.wire.specs.Faults.{FieldNumbers, adding, ofContent}
 use Rattle.wire.specs.Message.{filled}
-use Rattle.wire.specs.Numbers.{refusalNumber, padded}
-use Rattle.wire.specs.Fields.{Fields, Step, Tidy, Unread, formCode, isForm, isRead, marked, misfitOf, seenIn, stage, stop, viewOf, withMark}
+use Rattle.wire.specs.Numbers.{refusalNumber}
+use Rattle.wire.specs.Fields.{Fields, Step, Tidy, Unread, isForm, isRead, marked, misfitOf, seenIn, stage, stop, viewOf, withMark}
 use Rattle.wire.specs.Steps.{ContentStep, FieldStep, afterContent}
 use Rattle.wire.specs.declared.Refusal.{Refusal}
 use Rattle.wire.specs.declared.Refusal.the-variants.{UnexpectedField, WrongWireType}
@@ -20,7 +19,7 @@ use Rattle.wire.specs.declared.keys.Marks.{Marks}
 use Rattle.wire.specs.declared.schema.Form.{Form}
 use Rattle.wire.specs.declared.schema.Form.the-variants.{Unknown, Bytes, Provers, Verifiers, Bit}
 use Rattle.wire.proofs.FieldSteps.{unexpected, wrongly-typed, announced, content-end}
-use Rattle.wire.proofs.Forms.{absurd-bool, known-number, one-form}
+use Rattle.wire.proofs.Forms.{absurd-bool, one-form}
 
 -- A form that is marked has been read, and so have those before it.
 read-marked : (form other : Form) (read : Marks) → isUnknown other ≡ false → isRead form (marked other read) ≡ (isForm form other || isRead form read)

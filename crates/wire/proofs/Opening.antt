@@ -8,12 +8,12 @@ use borrow.Author.Tests.{lt-ltb, le-ltb, ltb-true, leb-true}
 use lib.Dec.{leb, ltb}
 use lib.ListN.{length, take}
 use lib.Seq.{length-take-le}
-use Rattle.wire.specs.Varint.{Number, value, fault, numberAt}
-use Rattle.wire.specs.Layout.{Block, block, faulty, blockAt, afterKey, fieldNumber, wireType, fieldsFrom}
+use Rattle.wire.specs.Varint.{value, fault, numberAt}
+use Rattle.wire.specs.Layout.{block, faulty, blockAt, afterKey, fieldNumber, wireType, fieldsFrom}
 use Rattle.wire.specs.Schema.{formIn, outerForm, isUnknown, wrongType}
-use Rattle.wire.specs.Fault.{Fault, at, faultIf, leftmost, Reading, readAs, refused, judged}
+use Rattle.wire.specs.Fault.{Fault, at, faultIf, leftmost, readAs, refused, judged}
 use Rattle.wire.specs.Faults.{noNumbers, ofFields, ofInner, ofOuter, faultsOf}
-use Rattle.wire.specs.Message.{Message, empty, withFields, messageOf, readingOf}
+use Rattle.wire.specs.Message.{Message, empty, withFields, readingOf}
 use Rattle.wire.specs.Steps.{fieldsOf}
 use Rattle.wire.specs.Whole.{Located, innerOf}
 use Rattle.wire.specs.declared.schema.Form.{Form}

@@ -1,15 +1,15 @@
 -- The first fault from the left, where faults are listed from left to right.
 use mathlib.Core.Path.{_≡_, refl, sym, ap, subst, _∙_}
-use mathlib.Core.Bool.{Bool, true, false, cond, _&&_, _||_}
+use mathlib.Core.Bool.{Bool, true, false, cond, _&&_}
 use mathlib.Core.List.{List, [], _∷_, _++_}
 use mathlib.Core.Option.{Option, none, some}
-use Prim.Native.Nat.{ℕ, _+_, _*_, _<_, _≤_}
+use Prim.Native.Nat.{ℕ, _+_, _*_, _≤_}
 use native.Mathlib.Decide.{ℕ-discrete}
 use native.Mathlib.Omega.{arith}
 use lib.Dec.{eqb, ltb}
-use borrow.Author.Tests.{lt-ltb, le-ltb, ne-eqb}
+use borrow.Author.Tests.{le-ltb, ne-eqb}
 use Rattle.wire.specs.Parts.{mapped}
-use Rattle.wire.specs.Fault.{Fault, at, before, firstOf, leftmost, Reading, readAs, refused, byFirst, judged}
+use Rattle.wire.specs.Fault.{Fault, before, firstOf, leftmost, Reading, readAs, refused, byFirst, judged}
 
 and-false : (b : Bool) → (b && false) ≡ false
 and-false true = refl

@@ -1,7 +1,7 @@
 -- How a varint is read from byte to byte.
-use mathlib.Core.Path.{_≡_, refl, sym, ap, _∙_}
+use mathlib.Core.Path.{_≡_, refl}
 use mathlib.Core.Bool.{Bool, true, false, cond}
-use mathlib.Core.List.{List, [], _∷_}
+use mathlib.Core.List.{List, _∷_}
 use Prim.Native.Nat.{ℕ, zero, suc, _+_, _-_, _*_, _^_, _<_, _≤_}
 use native.Mathlib.Nat.{zero-add, one-mul, mul-add, mul-assoc, mul-comm, mul-le-mul, mul-zero, add-zero, add-assoc, pow-suc, pow-le-pow-right}
 use native.Mathlib.Numerals.{add-one}

@@ -1,7 +1,7 @@
 -- What has been read of a message between two of its fields, and how far. No definition rests on this file.
 use mathlib.Core.Path.{_≡_}
-use Prim.Native.Nat.{ℕ, _+_}
-use mathlib.Core.Bool.{Bool, true, false, cond, _||_}
+use Prim.Native.Nat.{ℕ}
+use mathlib.Core.Bool.{Bool, false, cond, _||_}
 use mathlib.Core.List.{List, []}
 use lib.Dec.{eqb}
 use Rattle.wire.specs.Layout.{fieldNumber}

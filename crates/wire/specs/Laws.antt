@@ -4,7 +4,7 @@ use mathlib.Core.Bool.{false}
 use mathlib.Core.List.{List, [], List·Memᴰ}
 use Prim.Native.Nat.{ℕ, _+_, _≤_}
 use lib.ListN.{length}
-use Rattle.wire.specs.Fault.{Fault, before, Reading, readAs, refused}
+use Rattle.wire.specs.Fault.{Fault, before, readAs, refused}
 use Rattle.wire.specs.Faults.{faultsOf}
 use Rattle.wire.specs.Message.{Message, readingOf}
 

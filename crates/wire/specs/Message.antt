@@ -1,5 +1,5 @@
 -- Request #101: what a message without a fault says. An absent field reads as empty or 0.
-use Prim.Native.Nat.{ℕ, zero, suc, _+_}
+use Prim.Native.Nat.{ℕ, _+_}
 use mathlib.Core.List.{List, [], _∷_, map}
 use lib.ListN.{take}
 use Rattle.wire.specs.Varint.{Number, value, fault, numberAt, bitAt}

@@ -1,7 +1,7 @@
 -- What the private functions that read a whole message answer. No definition rests on this file.
 use mathlib.Core.Path.{_≡_}
 use Prim.Native.Nat.{ℕ, _+_, _≤_}
-use mathlib.Core.Bool.{Bool, true, false, cond, _||_}
+use mathlib.Core.Bool.{Bool, false, cond, _||_}
 use mathlib.Core.List.{List, [], _∷_}
 use lib.ListN.{length, take, getD}
 use Rattle.wire.specs.Layout.{block, fieldsFrom}
@@ -18,7 +18,7 @@ use Rattle.wire.specs.declared.flat.FlatMessage.{FlatMessage}
 use Rattle.wire.specs.declared.outer.Outer.{Outer}
 use Rattle.wire.specs.declared.outer.Outer.the-variants as outer
 use Rattle.wire.specs.declared.schema.Form.{Form}
-use Rattle.wire.specs.declared.schema.Form.the-variants.{Unknown, Bytes, Provers, Verifiers, Bit}
+use Rattle.wire.specs.declared.schema.Form.the-variants.{Bytes, Provers, Verifiers, Bit}
 
 -- The fields of a message that stands in lent bytes, with what follows it.
 unfoldable pub innerOf : (number : ℕ) (bytes : List ℕ) (start size : ℕ) → Reading Message

@@ -1,5 +1,5 @@
 -- `wire::read` meets its contract.
-use mathlib.Core.Path.{_≡_, ap, _∙_}
+use mathlib.Core.Path.{ap, _∙_}
 use borrow.Author.Needs.{needs}
 use Rattle.wire.specs.Whole.{carriedIn}
 use Rattle.wire.proofs.Carried.{carried-reading}

@@ -1,6 +1,5 @@
 -- `wire::block::block_at` meets its contract.
 use mathlib.Core.Path.{sym, ap, _∙_}
-use native.Mathlib.Omega.{arith}
 use borrow.Author.Needs.{needs}
 use Rattle.wire.specs.Parts.{numberOf}
 use Rattle.wire.proofs.Places.{after-read, runs-past, within}

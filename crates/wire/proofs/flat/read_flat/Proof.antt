@@ -1,8 +1,7 @@
 -- `wire::flat::read_flat` meets its contract.
-use mathlib.Core.Path.{_≡_, sym, ap, subst, _∙_}
+use mathlib.Core.Path.{ap, subst, _∙_}
 use native.Mathlib.Omega.{arith}
 use borrow.Author.Needs.{needs}
-use Rattle.wire.specs.Message.{readingOf}
 use Rattle.wire.specs.Whole.{Opened, innerOf}
 use Rattle.wire.specs.declared.outer.Outer.{Outer}
 use Prim.Native.Nat.{ℕ}

@@ -1,5 +1,4 @@
 -- `wire::keys::misfit` meets its contract.
-use mathlib.Core.Path.{sym}
 use borrow.Author.Needs.{needs}
 use Rattle.wire.proofs.keys.misfit.Statement.{statement}
 use Rattle.wire.proofs.keys.misfit.Tie as tie

@@ -1,5 +1,5 @@
 -- `wire::outer::outer_field` meets its contract.
-use mathlib.Core.Path.{_≡_, sym, ap, _∙_}
+use mathlib.Core.Path.{sym, ap, _∙_}
 use borrow.Author.Needs.{needs}
 use Rattle.wire.specs.Parts.{numberOf, blockOf}
 use Rattle.wire.proofs.Opening.{no-bytes, outer-faulty, outer-unexpected, outer-mistyped, outer-cut, outer-located}

@@ -3,7 +3,6 @@ use mathlib.Core.Path.{refl, ap, _∙_}
 use borrow.Author.Needs.{needs}
 use Rattle.wire.specs.Schema.{formIn}
 use Rattle.wire.specs.Fields.{isRead}
-use Rattle.wire.specs.Steps.{plainStep}
 use Rattle.wire.specs.declared.schema.Form.the-variants.{Bytes, Bit}
 use Rattle.wire.proofs.FittingKeys.{data-misfit, is-met}
 use Rattle.wire.proofs.OneField.{key-met, key-refused}

@@ -1,9 +1,7 @@
 -- `wire::plain::part_field` meets its contract.
 use mathlib.Core.Path.{refl, sym, ap, _∙_}
 use borrow.Author.Needs.{needs}
-use Rattle.wire.specs.Schema.{formIn}
 use Rattle.wire.specs.Fields.{isRead}
-use Rattle.wire.specs.Steps.{plainStep}
 use Rattle.wire.specs.declared.schema.Form.the-variants.{Bytes}
 use Rattle.wire.proofs.FittingKeys.{both, has-bytes, is-met, part-misfit}
 use Rattle.wire.proofs.OneField.{key-met, key-refused}

@@ -1,10 +1,10 @@
 -- `wire::varint::first_bytes` meets its contract. What is left of the bytes says what is left of the number.
 use mathlib.Core.Path.{_≡_, refl, ap, _∙_}
-use Prim.Native.Nat.{ℕ, suc, _+_, _-_, _*_, _^_, _<_, _≤_}
+use Prim.Native.Nat.{ℕ, suc, _+_, _-_, _^_, _<_, _≤_}
 use native.Mathlib.Omega.{arith}
 use lib.ListN.{drop}
 use borrow.Author.Needs.{needs}
-use Rattle.wire.specs.Varint.{says, said}
+use Rattle.wire.specs.Varint.{said}
 use Rattle.wire.specs.Parts.{behind}
 use Rattle.wire.proofs.Varints.{whole, ended, last, more, light, product, heavier}
 use Rattle.wire.proofs.varint.first_bytes.Statement.{statement}
