@@ -10,6 +10,7 @@ pub(crate) fn run() {
     bounds();
     refused_fields();
     refused_numbers();
+    refused_lists();
     first_faults();
 }
 
@@ -123,6 +124,9 @@ fn refused_numbers() {
         b"the tenth byte 1",
         &[74, 11, 8, 128, 128, 128, 128, 128, 128, 128, 128, 128, 1],
     );
+}
+
+fn refused_lists() {
     print::heading(b"messages, refused 25");
     show(
         b"seventeen suites",

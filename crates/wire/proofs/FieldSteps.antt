@@ -5,7 +5,7 @@ use mathlib.Core.List.{List, _∷_, _++_}
 use Prim.Native.Nat.{ℕ, zero, suc, _+_, _-_, _<_, _≤_}
 use native.Mathlib.Omega.{arith}
 use lib.Dec.{eqb, ltb}
-use borrow.Author.Tests.{eqb-true}
+use borrow.Author.Tests.{eqb-true, not-false}
 use lib.ListN.{length, take}
 use lib.Seq.{length-take-le}
 use Rattle.wire.specs.Varint.{Number, value, fault, numberAt, asBit}
@@ -46,11 +46,7 @@ or-left false c e = refl
 
 -- A number that passes the test for being another is that one.
 pub is-it : (n k : ℕ) → not (eqb n k) ≡ false → n ≡ k
-is-it n k e = by-test (eqb n k) refl e
-  where
-    by-test : (t : Bool) → eqb n k ≡ t → not t ≡ false → n ≡ k
-    by-test true p f = eqb-true n k p
-    by-test false p f = absurd-bool f
+is-it n k e = eqb-true n k (not-false (eqb n k) e)
 
 module _ (message : List ℕ) where
   -- Where a field of the right wire type ends.

@@ -1,6 +1,6 @@
 -- Which keys fit: for each message, those that the code tests for.
 use mathlib.Core.Path.{_≡_, refl, sym, ap, subst, _∙_}
-use mathlib.Core.Bool.{Bool, true, false, not, _&&_, _||_}
+use mathlib.Core.Bool.{Bool, true, false, not, _&&_, _||_, and-true}
 use Prim.Native.Nat.{ℕ, zero, suc, _+_, _*_, _%_, _≤_}
 use native.Mathlib.Omega.{arith}
 use lib.Dec.{eqb}
@@ -67,10 +67,6 @@ module _ (message key : ℕ) (read : Marks) where
 met : (key k : ℕ) (read : Bool) → key ≡ k → read ≡ false → (eqb key k && not read) ≡ false → ⊥
 met key k read e r t = absurd-bool (sym (rw (eq-eqb key k e, r)) ∙ t)
 
-and-true : (b : Bool) → (b && true) ≡ false → b ≡ false
-and-true true e = e
-and-true false e = e
-
 pub both : (b c : Bool) → (b && c) ≡ true → (b ≡ true) × (c ≡ true)
 both true c e = (refl, e)
 both false c e = absurd-bool (sym e)
@@ -115,7 +111,7 @@ module _ (key : ℕ) (read : Marks) where
       ((eqb key 10 && not (read .bytes)) && true) ≡ false → Misfit message key read
   one-part message p q r a u w =
       by-number message key read u w
-      (λ f. met key 10 (read .bytes) (f .key-is ∙ ap (λ (k : Form). keyOf k 1) p) (sym (ap (λ (k : Form). isRead k read) p) ∙ f .unread) (and-true (eqb key 10 && not (read .bytes)) a))
+      (λ f. met key 10 (read .bytes) (f .key-is ∙ ap (λ (k : Form). keyOf k 1) p) (sym (ap (λ (k : Form). isRead k read) p) ∙ f .unread) (sym (and-true (eqb key 10 && not (read .bytes))) ∙ a))
       (λ f. absurd-bool (sym q ∙ f .known))
       (λ f. absurd-bool (sym r ∙ f .known))
 

@@ -10,23 +10,21 @@ use Rattle.wire.specs.Fault.{Reading, readAs, refused}
 use Rattle.wire.specs.Flat.{flatIn}
 use Rattle.wire.specs.Message as spec
 use Rattle.wire.specs.Numbers.{entries, padded, proversAfter, verifiersAfter}
+use Rattle.wire.proofs.Lists.{length-padded}
 
 pub length-entries : (count : ℕ) (list : List ℕ) → length (entries count list) ≡ count
 length-entries count list = rw (length-append, length-take, length-replicate) (omega arith)
 
--- As many as were counted are there.
+-- A list of sixteen has every entry that is counted.
 pub all-there : (count : ℕ) (list : List ℕ) → length list ≡ 16 → count ≤ 16 → entries count list ≡ take count list
 all-there count list e h =
     let z : count - 16 ≡ 0 = omega arith in
     rw (e, z, append-nil)
 
-length-padded-16 : (suites : List ℕ) → length suites ≤ 16 → length (padded suites) ≡ 16
-length-padded-16 suites h = rw (length-append, length-replicate) (omega arith)
-
 -- The lists after a reading.
 module _ (before : List ℕ) (sixteen : length before ≡ 16) where
   written : (suites : List ℕ) → length suites ≤ 16 → (t : Bool) → length (cond t (padded suites) before) ≡ 16
-  written suites h true = length-padded-16 suites h
+  written suites h true = length-padded suites h
   written suites h false = sixteen
 
   pub provers-16 : (reading : Reading spec.Message) → flatIn reading .provers ≤ 16 → length (proversAfter reading before) ≡ 16

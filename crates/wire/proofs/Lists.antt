@@ -6,6 +6,7 @@ use Prim.Native.Nat.{ℕ, zero, suc, _+_, _-_, _*_, _<_, _≤_}
 use native.Mathlib.Omega.{arith}
 use lib.Dec.{ltb}
 use lib.ListN.{length, take, set, length-append, length-replicate}
+use lib.Seq.{take-append-seam, set-append-seam}
 use Rattle.wire.specs.Varint.{Number, value, fault, numberAt}
 use Rattle.wire.specs.Parts.{mapped, listed, listFrom, packedAt}
 use Rattle.wire.specs.Layout.{block, faulty, blockAt, places, afterNumber, entriesFrom}
@@ -96,19 +97,11 @@ module _ (list : List ℕ) where
   list-ends place room suites h = rw (at-end list after place h, append-nil)
 
 -- A list of suites with zeros after them, and one suite more.
-set-next : (suites rest : List ℕ) (z suite : ℕ) → set (suites ++ (z ∷ rest)) (length suites) suite ≡ suites ++ (suite ∷ rest)
-set-next [] rest z suite = refl
-set-next (s ∷ suites) rest z suite = ap (λ (l : List ℕ). s ∷ l) (set-next suites rest z suite)
-
 pub one-stored : (suites : List ℕ) (suite : ℕ) → length suites < 16 → set (padded suites) (length suites) suite ≡ padded (suites ++ (suite ∷ []))
 one-stored suites suite h =
     let e : 16 - length suites ≡ suc (16 - suc (length suites)) = omega arith in
     let n : length (suites ++ (suite ∷ [])) ≡ suc (length suites) = length-append suites (suite ∷ []) ∙ omega arith in
-    rw (n, e, set-next, append-assoc)
-
-take-all : (suites rest : List ℕ) → take (length suites) (suites ++ rest) ≡ suites
-take-all [] rest = refl
-take-all (s ∷ suites) rest = ap (λ (l : List ℕ). s ∷ l) (take-all suites rest)
+    rw (n, e, set-append-seam, append-assoc)
 
 pub length-padded : (suites : List ℕ) → length suites ≤ 16 → length (padded suites) ≡ 16
 length-padded suites h = rw (length-append, length-replicate) (omega arith)
@@ -116,7 +109,7 @@ length-padded suites h = rw (length-append, length-replicate) (omega arith)
 pub padded-entries : (suites : List ℕ) → length suites ≤ 16 → entries (length suites) (padded suites) ≡ suites
 padded-entries suites h =
     let e : length suites - 16 ≡ 0 = omega arith in
-    rw (length-padded suites h, e, take-all, append-nil)
+    rw (length-padded suites h, e, take-append-seam, append-nil)
 
 -- A packed list at a place is the list in its part.
 module _ (message : List ℕ) (place : ℕ) where

@@ -1,6 +1,6 @@
 -- The outer field: which message it holds, and where.
 use mathlib.Core.Path.{_≡_, refl, sym, ap, subst, _∙_}
-use mathlib.Core.Bool.{Bool, true, false, cond, _&&_, _||_}
+use mathlib.Core.Bool.{Bool, true, false, cond, _&&_, _||_, or-false}
 use mathlib.Core.List.{List, [], _∷_, _++_}
 use Prim.Native.Nat.{ℕ, _+_, _-_, _<_, _≤_}
 use native.Mathlib.Omega.{arith}
@@ -32,10 +32,6 @@ some-bytes : (bytes : List ℕ) → (length bytes ≡ 0 → ⊥) → faultsOf by
 unfolding faultsOf
 some-bytes [] h = absurd (h refl)
 some-bytes (b ∷ bytes) h = refl
-
-or-false : (b : Bool) → (b || false) ≡ b
-or-false true = refl
-or-false false = refl
 
 module _ (bytes : List ℕ) (h : length bytes ≡ 0 → ⊥) where
   pub outer-faulty : (refusal : ℕ) → numberAt bytes 0 ≡ fault refusal → readingOf bytes ≡ refused refusal

@@ -1,6 +1,6 @@
 -- The first fault from the left, where faults are listed from left to right.
 use mathlib.Core.Path.{_≡_, refl, sym, ap, subst, _∙_}
-use mathlib.Core.Bool.{Bool, true, false, cond, _&&_}
+use mathlib.Core.Bool.{Bool, true, false, cond, _&&_, and-false}
 use mathlib.Core.List.{List, [], _∷_, _++_}
 use mathlib.Core.Option.{Option, none, some}
 use Prim.Native.Nat.{ℕ, _+_, _*_, _≤_}
@@ -10,10 +10,6 @@ use lib.Dec.{eqb, ltb}
 use borrow.Author.Tests.{le-ltb, ne-eqb}
 use Rattle.wire.specs.Parts.{mapped}
 use Rattle.wire.specs.Fault.{Fault, before, firstOf, leftmost, Reading, readAs, refused, byFirst, judged}
-
-and-false : (b : Bool) → (b && false) ≡ false
-and-false true = refl
-and-false false = refl
 
 -- A fault does not come before one that is further left, or at the same place with a number that is no higher.
 pub not-before : (f g : Fault) → f .place ≤ g .place → (f .place ≡ g .place → f .number ≤ g .number) → before g f ≡ false

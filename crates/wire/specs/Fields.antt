@@ -1,4 +1,4 @@
--- What has been read of a message between two of its fields, and how far. No definition rests on this file.
+-- What has been read of a message between two of its fields, and how far. No public contract rests on this file.
 use mathlib.Core.Path.{_≡_}
 use Prim.Native.Nat.{ℕ}
 use mathlib.Core.Bool.{Bool, false, cond, _||_}
@@ -37,6 +37,7 @@ formCode Provers = 2
 formCode Verifiers = 3
 formCode Bit = 4
 
+-- Whether two forms are the same.
 abbrev pub isForm : Form → Form → Bool
 isForm form other = eqb (formCode form) (formCode other)
 
@@ -65,6 +66,7 @@ pub record Fields : Type 0 where
   pub provers : ℕ
   pub verifiers : ℕ
 
+-- The same by its parts in their order.
 abbrev pub fields : Marks → (place size bit provers verifiers : ℕ) → Fields
 fields read place size bit provers verifiers = record {
   read = read;
@@ -75,6 +77,7 @@ fields read place size bit provers verifiers = record {
   verifiers = verifiers;
 }
 
+-- No field has been read.
 abbrev pub nothing : Fields
 nothing = fields (marks false false false false) 0 0 0 0 0
 
@@ -87,10 +90,11 @@ abbrev pub viewOf : ℕ → Fields → (provers verifiers : List ℕ) → Messag
 viewOf number f provers verifiers =
     made number (f .place) (f .size) (f .bit) (entries (f .provers) provers) (entries (f .verifiers) verifiers)
 
--- A list holds the suites that were counted, and zeros until it is read.
+-- A list that has not been read holds zeros.
 abbrev pub Unread : Bool → List ℕ → Type 0
 Unread read list = read ≡ false → list ≡ padded []
 
+-- A list holds the suites that were counted, and zeros until it is read.
 abbrev pub Tidy : Fields → (provers verifiers : List ℕ) → Type 0
 Tidy f provers verifiers =
     (Holds (f .provers) provers × Unread (f .read .provers) provers)
@@ -102,6 +106,7 @@ pub record Stage : Type 0 where
   pub message : Message
   pub next : ℕ
 
+-- The same by its parts in their order.
 abbrev pub stage : FieldNumbers → Message → ℕ → Stage
 stage former message next = record { former = former; message = message; next = next }
 
@@ -110,10 +115,12 @@ pub data Step : Type 0 where
   proceed : Fields → (place : ℕ) → Step
   stop : Refusal → Step
 
+-- How far the message has been read after the step.
 abbrev pub stepIn : ℕ → Step → (provers verifiers : List ℕ) → Reading Stage
 stepIn number (proceed f place) provers verifiers = readAs (stage (seenIn number (f .read)) (viewOf number f provers verifiers) place)
 stepIn number (stop refusal) provers verifiers = refused (refusalNumber refusal)
 
+-- Both lists are as they should be after the step.
 abbrev pub TidyStep : Step → (provers verifiers : List ℕ) → Type 0
 TidyStep (proceed f place) provers verifiers = Tidy f provers verifiers
 TidyStep (stop refusal) provers verifiers = Unit {0}

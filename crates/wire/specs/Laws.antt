@@ -1,4 +1,4 @@
--- The laws that pin the definition: a refusal is given by the first fault, a message shows none, and its part lies in the bytes.
+-- Laws of the definition: a refusal is given by the first fault, a message shows none, and its part lies in the bytes.
 use mathlib.Core.Path.{_≡_}
 use mathlib.Core.Bool.{false}
 use mathlib.Core.List.{List, [], List·Memᴰ}

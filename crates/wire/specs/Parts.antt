@@ -1,4 +1,4 @@
--- What the private functions that read numbers, blocks and lists answer, in the values of the definitions. No definition
+-- What the private functions that read numbers, blocks and lists answer, in the values of the definitions. No public contract
 -- rests on this file.
 use mathlib.Core.Path.{_≡_}
 use Prim.Native.Nat.{ℕ, _+_, _-_, _*_, _^_, _≤_}
@@ -21,6 +21,7 @@ use Rattle.wire.specs.declared.list.Counted.the-variants as counted
 use Rattle.wire.specs.declared.list.Packed.{Packed}
 use Rattle.wire.specs.declared.list.Packed.the-variants as packed
 
+-- A varint as the definitions have it.
 abbrev pub numberOf : Varint → Number
 numberOf (varint.Number number next) = value number next
 numberOf (varint.Fault refusal) = fault (refusalNumber refusal)
@@ -37,6 +38,7 @@ SaidBy most (first-say.Value number width) bytes = said 10 bytes ≡ says number
 SaidBy most first-say.Cut bytes = said 10 bytes ≡ cut
 SaidBy most (first-say.More low) bytes = said 10 bytes ≡ behind low (128 ^ most) most (said (10 - most) (drop most bytes))
 
+-- A length-delimited part as the definitions have it.
 abbrev pub blockOf : part.Block → Block
 blockOf (part-is.Bytes start size) = block start size
 blockOf (part-is.Fault refusal) = faulty (refusalNumber refusal)
@@ -50,6 +52,7 @@ mapped f (refused number) = refused number
 unfoldable pub listFrom : List ℕ → ℕ → Reading (List ℕ)
 listFrom bytes start = judged (ofEntries bytes 16 (entriesFrom bytes start)) (suitesFrom bytes start)
 
+-- What was read into a list.
 abbrev pub countedIn : Counted → List ℕ → Reading (List ℕ)
 countedIn (counted.Count count) list = readAs (entries count list)
 countedIn (counted.Fault refusal) list = refused (refusalNumber refusal)
@@ -58,6 +61,7 @@ countedIn (counted.Fault refusal) list = refused (refusalNumber refusal)
 abbrev pub Holds : ℕ → List ℕ → Type 0
 Holds count list = (count ≤ 16) × (list ≡ padded (entries count list))
 
+-- The list holds the suites that were counted.
 abbrev pub Counts : Counted → List ℕ → Type 0
 Counts (counted.Count count) list = Holds count list
 Counts (counted.Fault refusal) list = Unit {0}
@@ -67,18 +71,22 @@ pub record Listed : Type 0 where
   pub suites : List ℕ
   pub next : ℕ
 
+-- The same by its parts in their order.
 abbrev pub listed : List ℕ → ℕ → Listed
 listed suites next = record { suites = suites; next = next }
 
+-- The packed list at a place.
 unfoldable pub packedAt : List ℕ → ℕ → Reading Listed
 packedAt bytes place =
     judged (ofList bytes place (blockAt bytes place))
     (listed (suitesIn bytes (blockAt bytes place)) (afterBlock bytes (blockAt bytes place)))
 
+-- What was read of it into a list.
 abbrev pub packedOf : Packed → List ℕ → Reading Listed
 packedOf (packed.Suites count next) suites = readAs (listed (entries count suites) next)
 packedOf (packed.Fault refusal) suites = refused (refusalNumber refusal)
 
+-- The list holds the suites that were counted.
 abbrev pub PackedCounts : Packed → List ℕ → Type 0
 PackedCounts (packed.Suites count next) list = Holds count list
 PackedCounts (packed.Fault refusal) list = Unit {0}

@@ -1,4 +1,4 @@
--- What the private functions that read fields answer. No definition rests on this file.
+-- What the private functions that read fields answer. No public contract rests on this file.
 use mathlib.Core.Path.{_≡_}
 use Prim.Native.Nat.{ℕ, _+_}
 use mathlib.Core.Bool.{Bool, _||_}
@@ -64,9 +64,11 @@ helloStep (hello-field.Fault refusal) f = stop refusal
 abbrev pub Content : Form → (bytes : List ℕ) (place : ℕ) → (Fields → Step) → Type 0
 Content form bytes place step = (f : Fields) (provers verifiers : List ℕ) → ContentStep form bytes place (withMark form f) provers verifiers (step f) provers verifiers
 
+-- The same of the prover suites, which are read into a list.
 abbrev pub ProversContent : (bytes : List ℕ) (place : ℕ) → hello.Field → (list : List ℕ) → Type 0
 ProversContent bytes place r list = (f : Fields) (provers verifiers : List ℕ) → ContentStep Provers bytes place (withMark Provers f) provers verifiers (helloStep r f) list verifiers
 
+-- The same of the verifier suites.
 abbrev pub VerifiersContent : (bytes : List ℕ) (place : ℕ) → hello.Field → (list : List ℕ) → Type 0
 VerifiersContent bytes place r list = (f : Fields) (provers verifiers : List ℕ) → ContentStep Verifiers bytes place (withMark Verifiers f) provers verifiers (helloStep r f) provers list
 
@@ -80,7 +82,7 @@ PlainStep message bytes place read r =
     (f : Fields) → f .read ≡ read → (provers verifiers : List ℕ) →
     FieldStep message bytes place f provers verifiers (plainStep r f) provers verifiers
 
--- The same behind its key.
+-- The same, by a key that was read and the place behind it.
 abbrev pub PlainKey : (message key : ℕ) (bytes : List ℕ) (behindKey : ℕ) → Marks → plain.Field → Type 0
 PlainKey message key bytes behindKey read r =
     (place : ℕ) → numberAt bytes place ≡ value key behindKey → PlainStep message bytes place read r
@@ -95,15 +97,18 @@ unfoldable pub fieldsOf : (number : ℕ) (bytes : List ℕ) (start : ℕ) → Re
 fieldsOf number bytes start =
     judged (ofFields (formIn number) noNumbers bytes (fieldsFrom bytes start)) (withFields bytes (fieldsFrom bytes start) (empty number))
 
+-- The message that the fields are.
 abbrev pub plainIn : ℕ → Plain → Reading Message
 plainIn number (of-plain.Read part bit) = readAs (made number (part .place) (part .size) bit [] [])
 plainIn number (of-plain.Fault refusal) = refused (refusalNumber refusal)
 
+-- The hello that the fields and the two lists are.
 abbrev pub helloIn : Hello → (provers verifiers : List ℕ) → Reading Message
 helloIn (of-hello.Read held) provers verifiers =
     readAs (made 1 (held .place) (held .size) 0 (entries (held .provers) provers) (entries (held .verifiers) verifiers))
 helloIn (of-hello.Fault refusal) provers verifiers = refused (refusalNumber refusal)
 
+-- The lists hold the suites that were counted.
 abbrev pub HelloCounts : Hello → (provers verifiers : List ℕ) → Type 0
 HelloCounts (of-hello.Read held) provers verifiers = Holds (held .provers) provers × Holds (held .verifiers) verifiers
 HelloCounts (of-hello.Fault refusal) provers verifiers = Unit {0}

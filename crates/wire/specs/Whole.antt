@@ -1,14 +1,14 @@
--- What the private functions that read a whole message answer. No definition rests on this file.
+-- What the private functions that read a whole message answer. No public contract rests on this file.
 use mathlib.Core.Path.{_≡_}
 use Prim.Native.Nat.{ℕ, _+_, _≤_}
 use mathlib.Core.Bool.{Bool, false, cond, _||_}
 use mathlib.Core.List.{List, [], _∷_}
-use lib.ListN.{length, take, getD}
-use Rattle.wire.specs.Layout.{block, fieldsFrom}
+use lib.ListN.{length, getD}
+use Rattle.wire.specs.Layout.{block}
 use Rattle.wire.specs.Schema.{schema}
 use Rattle.wire.specs.Fault.{Reading, refused, judged}
 use Rattle.wire.specs.Faults.{ofInner}
-use Rattle.wire.specs.Message.{Message, made, empty, withFields, readingOf}
+use Rattle.wire.specs.Message.{Message, made, messageIn, readingOf}
 use Rattle.wire.specs.Numbers.{CountsFit, refusalNumber, readingIn, proversAfter, verifiersAfter}
 use Rattle.wire.specs.Flat.{Known, flatIn, readingBy}
 use Rattle.wire.specs.Parts.{mapped}
@@ -23,8 +23,7 @@ use Rattle.wire.specs.declared.schema.Form.the-variants.{Bytes, Provers,
 -- The fields of a message that stands in lent bytes, with what follows it.
 unfoldable pub innerOf : (number : ℕ) (bytes : List ℕ) (start size : ℕ) → Reading Message
 innerOf number bytes start size =
-    judged (ofInner number bytes 0 (block start size))
-    (withFields (take (start + size) bytes) (fieldsFrom (take (start + size) bytes) start) (empty number))
+    judged (ofInner number bytes 0 (block start size)) (messageIn number bytes (block start size))
 
 -- The one message stands at `start`, and reading the bytes is reading its fields.
 pub record Located (number start size : ℕ) (bytes : List ℕ) : Type 0 where
@@ -55,7 +54,7 @@ abbrev pub contains : Form → List Form → Bool
 contains form [] = false
 contains form (f ∷ row) = isForm form f || contains form row
 
--- The parts of a message for which the schema has a field.
+-- The message with 0 and empty lists where the schema has no field.
 abbrev pub carried : Message → Message
 carried m =
     let row = getD schema (m .number) [] in
@@ -66,10 +65,11 @@ carried m =
     (cond (contains Provers row) (m .provers) [])
     (cond (contains Verifiers row) (m .verifiers) [])
 
+-- The same of a reading.
 abbrev pub carriedIn : Reading Message → Reading Message
 carriedIn = mapped carried
 
--- An answer by numbers: of those that the message carries it says what they say.
+-- The enum says what the numbers say of the parts that the message carries; its counts are at most 16 if theirs are.
 abbrev pub MessageAs : FlatMessage → answer.Message → Type 0
 MessageAs m r =
     Known m → ((provers verifiers : List ℕ) → readingIn r provers verifiers ≡ carriedIn (readingBy m provers verifiers))

@@ -17,7 +17,7 @@ use crate::refusal_number;
 use crate::schema;
 
 // A refusal's number, 0 for none, and then the message's number, its bit, how many suites, and where the token or payload
-// lies. What a message does not carry is 0; of a refused one all are.
+// lies. What a message does not carry is 0; where the bytes are refused, all but the refusal is.
 #[repr(C)]
 pub struct FlatMessage {
     pub refusal: u32,

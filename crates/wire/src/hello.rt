@@ -110,7 +110,7 @@ fn next_field(
 }
 
 // All fields from `start` to the end of the bytes.
-pub fn read_hello(
+pub(crate) fn read_hello(
     bytes: &[u8],
     start: usize,
     provers: &mut [u32; 16],

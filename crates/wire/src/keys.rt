@@ -47,7 +47,7 @@ fn is_read(form: Form, read: Marks) -> bool
 }
 
 // Why a key does not fit: its field is unknown or has been read, or else its wire type is wrong.
-pub fn misfit(message: u32, key: u32, read: Marks) -> Refusal
+pub(crate) fn misfit(message: u32, key: u32, read: Marks) -> Refusal
     ensures { λ r. ⌜ r ≡ misfitOf message key read ⌝ }
 {
     let form = form_in(message, key / WIRE_TYPES);

@@ -55,7 +55,7 @@ pub enum Message {
     Refused(Refusal),
 }
 
-// A refusal by its number.
+// A refusal by its number, one of the five.
 fn refusal_of(number: u32) -> Refusal
     ensures { λ r. ⌜ ((21 ≤ number) × (number ≤ 25) → refusalNumber r ≡ number) ⌝ }
 {
@@ -68,7 +68,7 @@ fn refusal_of(number: u32) -> Refusal
     }
 }
 
-// A message by its number.
+// The enum of a message given as numbers.
 fn message_of(message: FlatMessage) -> Message
     ensures { λ r. ⌜ MessageAs message r ⌝ }
 {

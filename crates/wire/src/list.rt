@@ -50,7 +50,7 @@ fn entries(bytes: &[u8], start: usize, suites: &mut [u32; 16]) -> Counted
 }
 
 // The packed list at a place.
-pub fn packed_at(bytes: &[u8], place: usize, suites: &mut [u32; 16]) -> Packed
+pub(crate) fn packed_at(bytes: &[u8], place: usize, suites: &mut [u32; 16]) -> Packed
     requires { ⌜ now suites ≡ padded [] ⌝ }
     ensures { λ r. ⌜ packedOf r (now (suites .exit)) ≡ packedAt (now (bytes .entry)) place ⌝ }
     ensures { λ r. ⌜ PackedCounts r (now (suites .exit)) ⌝ }

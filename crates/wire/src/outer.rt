@@ -17,7 +17,7 @@ pub enum Outer {
 }
 
 // The outer field, by the key at the first byte.
-pub fn outer_field(bytes: &[u8]) -> Outer
+pub(crate) fn outer_field(bytes: &[u8]) -> Outer
     ensures { λ r. ⌜ Opened r (now (bytes .entry)) ⌝ }
 {
     if bytes.len() == 0 {

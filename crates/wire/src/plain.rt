@@ -112,7 +112,7 @@ fn next_field(message: u32, bytes: &[u8], place: usize, read: Marks) -> Field
 
 // All fields from `start` to the end of the bytes. Bytes and bit are kept apart: a struct of both would have padding, which
 // is copied in every turn.
-pub fn read_plain(message: u32, bytes: &[u8], start: usize) -> Plain
+pub(crate) fn read_plain(message: u32, bytes: &[u8], start: usize) -> Plain
     requires { ⌜ (2 ≤ message) × (message ≤ 9) ⌝ }
     requires { ⌜ start ≤ length (now bytes) ⌝ }
     ensures { λ r. ⌜ plainIn message r ≡ fieldsOf message (now (bytes .entry)) start ⌝ }

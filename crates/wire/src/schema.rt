@@ -37,7 +37,7 @@ pub enum Form {
 }
 
 // The form of a field of a message.
-pub fn form_in(message: u32, number: u32) -> Form
+pub(crate) fn form_in(message: u32, number: u32) -> Form
     ensures { λ r. ⌜ r ≡ formIn message number ⌝ }
 {
     match message {
@@ -91,16 +91,16 @@ fn ack_form(number: u32) -> Form
 }
 
 // The outer message holds the nine messages, length-delimited as bytes are.
-pub fn outer_form(number: u32) -> Form
+pub(crate) fn outer_form(number: u32) -> Form
     ensures { λ r. ⌜ r ≡ outerForm number ⌝ }
 {
-    if (1 <= number) & (number <= ACK) {
+    if (HELLO <= number) & (number <= ACK) {
         return Form::Bytes;
     }
     Form::Unknown
 }
 
-pub fn is_unknown(form: Form) -> bool
+pub(crate) fn is_unknown(form: Form) -> bool
     ensures { λ r. ⌜ r ≡ isUnknown form ⌝ }
 {
     match form {
@@ -113,7 +113,7 @@ pub fn is_unknown(form: Form) -> bool
 }
 
 // Whether a field of this form cannot have this wire type.
-pub fn wrong_type(form: Form, wire: u32) -> bool
+pub(crate) fn wrong_type(form: Form, wire: u32) -> bool
     ensures { λ r. ⌜ r ≡ wrongType form wire ⌝ }
 {
     match form {

@@ -15,7 +15,7 @@ const LARGEST: u64 = 4294967295;
 
 const LARGEST_BIT: u32 = 1;
 
-// So many bytes say less than 2^63, so that only one more can leave 64 bits.
+// So many bytes say less than 2^63; one more may not fit 64 bits.
 const SAFE_WIDTH: usize = 9;
 
 // So many bytes say every number of 32 bits.
@@ -101,7 +101,7 @@ fn long_number(bytes: &[u8], place: usize) -> Varint
 }
 
 // The number at a place. Most keys and lengths are said by one byte or two, and these are read without a call.
-pub fn number(bytes: &[u8], place: usize) -> Varint
+pub(crate) fn number(bytes: &[u8], place: usize) -> Varint
     ensures { λ r. ⌜ numberOf r ≡ numberAt (now (bytes .entry)) place ⌝ }
 {
     if place >= bytes.len() {
@@ -120,9 +120,9 @@ pub fn number(bytes: &[u8], place: usize) -> Varint
     long_number(&bytes[place..], place)
 }
 
-// The same of an entry of a list, which may well have five bytes: where these are there, they are read without a test for
-// the end.
-pub fn entry(bytes: &[u8], place: usize) -> Varint
+// The same of an entry of a list, which may well have five bytes: where these are there, the compiler can leave out the tests
+// for the end.
+pub(crate) fn entry(bytes: &[u8], place: usize) -> Varint
     requires { ⌜ place ≤ length (now bytes) ⌝ }
     ensures { λ r. ⌜ numberOf r ≡ numberAt (now (bytes .entry)) place ⌝ }
 {
@@ -138,7 +138,7 @@ pub fn entry(bytes: &[u8], place: usize) -> Varint
 }
 
 // The bit at a place.
-pub fn bit(bytes: &[u8], place: usize) -> Varint
+pub(crate) fn bit(bytes: &[u8], place: usize) -> Varint
     ensures { λ r. ⌜ numberOf r ≡ bitAt (now (bytes .entry)) place ⌝ }
 {
     let varint = number(bytes, place);
