@@ -264,7 +264,7 @@ typedef struct menhotrac_choice {
 
 /* A message as numbers. Where the bytes are refused, all but the refusal is 0. */
 typedef struct menhotrac_message {
-    uint32_t refusal; /* 0, or 21 to 25 of enum menhotrac_answer; menhotrac_call_read: also 42, 43 */
+    uint32_t refusal; /* 0, or 21 to 25; of menhotrac_call_read also 42 and 43 */
     uint32_t number;  /* enum menhotrac_message_number */
     uint32_t bit;     /* of a DATA or ACK, else 0 */
     size_t provers;   /* how many suites of each list of a HELLO, at most 16, else 0 */

@@ -11,7 +11,7 @@ use Rattle.wire.specs.Faults.{ofContent, ofList}
 use Rattle.wire.specs.Message.{made, suitesIn}
 use Rattle.wire.specs.Numbers.{refusalNumber, entries}
 use Rattle.wire.specs.Parts.{Holds, Listed, PackedCounts, listed, packedAt, packedOf}
-use Rattle.wire.specs.Fields.{Fields, fields, marked, proceed, seenIn, stage, stop, withMark}
+use Rattle.wire.specs.Fields.{Fields, marked, proceed, seenIn, stage, stop, withMark, withBytes, withBit, withProvers, withVerifiers}
 use Rattle.wire.specs.Steps.{ContentStep}
 use Rattle.wire.specs.declared.Refusal.{Refusal}
 use Rattle.wire.specs.declared.list.Packed.{Packed}
@@ -42,13 +42,13 @@ module _ (bytes : List ℕ) (place : ℕ) (f : Fields) (provers verifiers : List
 
   pub bytes-read : (start size : ℕ) → blockAt bytes place ≡ block start size →
       ContentStep Bytes bytes place (withMark Bytes f) provers verifiers
-      (proceed (fields (marked Bytes (f .read)) start size (f .bit) (f .provers) (f .verifiers)) (start + size)) provers verifiers
+      (proceed (withBytes start size f) (start + size)) provers verifiers
   unfolding leftmost
   bytes-read start size e = record { reads = λ number. rw (e); tidies = λ t. t }
 
   pub bit-read : (bit after : ℕ) → bitAt bytes place ≡ value bit after →
       ContentStep Bit bytes place (withMark Bit f) provers verifiers
-      (proceed (fields (marked Bit (f .read)) (f .place) (f .size) bit (f .provers) (f .verifiers)) after) provers verifiers
+      (proceed (withBit bit f) after) provers verifiers
   unfolding leftmost
   bit-read bit after e = record { reads = λ number. rw (e, as-number (numberAt bytes place) bit after e); tidies = λ t. t }
 
@@ -78,7 +78,7 @@ module _ (bytes : List ℕ) (place : ℕ) (f : Fields) (provers verifiers : List
       tidy = subst (λ (p : Packed). PackedCounts p list) h holds
 
       pub provers-read : ContentStep Provers bytes place (withMark Provers f) provers verifiers
-          (proceed (fields (marked Provers (f .read)) (f .place) (f .size) (f .bit) count (f .verifiers)) after) list verifiers
+          (proceed (withProvers count f) after) list verifiers
       provers-read = record {
         reads = λ number.
             sym (read _ .1 ∙ ap (λ (l : Listed). readAs (stage (seenIn number (marked Provers (f .read))) (made number (f .place) (f .size) (f .bit) (l .suites) (entries (f .verifiers) verifiers)) (l .next))) (read place .0));
@@ -86,7 +86,7 @@ module _ (bytes : List ℕ) (place : ℕ) (f : Fields) (provers verifiers : List
       }
 
       pub verifiers-read : ContentStep Verifiers bytes place (withMark Verifiers f) provers verifiers
-          (proceed (fields (marked Verifiers (f .read)) (f .place) (f .size) (f .bit) (f .provers) count) after) provers list
+          (proceed (withVerifiers count f) after) provers list
       verifiers-read = record {
         reads = λ number.
             sym (read _ .1 ∙ ap (λ (l : Listed). readAs (stage (seenIn number (marked Verifiers (f .read))) (made number (f .place) (f .size) (f .bit) (entries (f .provers) provers) (l .suites)) (l .next))) (read place .0));

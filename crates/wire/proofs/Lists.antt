@@ -1,21 +1,21 @@
 -- How a packed list is read from entry to entry.
-use mathlib.Core.Path.{_≡_, refl, ap, subst, _∙_}
+use mathlib.Core.Path.{_≡_, refl, subst, _∙_}
 use mathlib.Core.Bool.{Bool, true, false, cond}
 use mathlib.Core.List.{List, [], _∷_, _++_, append-assoc, append-nil}
 use Prim.Native.Nat.{ℕ, zero, suc, _+_, _-_, _*_, _<_, _≤_}
 use native.Mathlib.Omega.{arith}
 use lib.Dec.{ltb}
 use lib.ListN.{length, take, set, length-append, length-replicate}
-use lib.Seq.{take-append-seam, set-append-seam}
+use lib.Seq.{length-take-le, take-append-seam, set-append-seam}
 use Rattle.wire.specs.Varint.{Number, value, fault, numberAt}
-use Rattle.wire.specs.Parts.{mapped, listed, listFrom, packedAt}
+use Rattle.wire.specs.Parts.{listed, listFrom, packedAt}
 use Rattle.wire.specs.Layout.{block, faulty, blockAt, places, afterNumber, entriesFrom}
 use Rattle.wire.specs.Fault.{at, leftmost, readAs, refused, judged}
 use Rattle.wire.specs.Faults.{ofNumber, ofEntries}
 use Rattle.wire.specs.Message.{suitesFrom}
 use Rattle.wire.specs.Numbers.{entries, padded}
-use Rattle.wire.proofs.Order.{Between, widen, joined, not-before, append-refused, judged-mapped}
-use Rattle.wire.proofs.Places.{Stands, stands, at-end, one-more}
+use Rattle.wire.proofs.Order.{Between, widen, joined, not-before, append-refused}
+use Rattle.wire.proofs.Places.{Stands, stands, at-end, one-more, block-within}
 
 module _ (list : List ℕ) where
   -- A number's fault stands at its place.
@@ -86,13 +86,14 @@ module _ (list : List ℕ) where
           (entries-between after 0 (length list - next) next next (omega (arith, within .1))) x x 25 refl)
 
       pub entry-taken : (room : ℕ) (suites : List ℕ) →
-          judged (ofEntries list room (entriesFrom list next)) ((suites ++ (suite ∷ [])) ++ suitesFrom list next)
-          ≡ judged (ofEntries list (suc room) (entriesFrom list place)) (suites ++ suitesFrom list place)
+          judged (ofEntries list room (entriesFrom list next)) (listed ((suites ++ (suite ∷ [])) ++ suitesFrom list next) (length list))
+          ≡ judged (ofEntries list (suc room) (entriesFrom list place)) (listed (suites ++ suitesFrom list place) (length list))
       unfolding ofEntries
       entry-taken room suites = rw (entry-here, e, append-assoc)
 
   -- No entry is left.
-  pub list-ends : (place room : ℕ) (suites : List ℕ) → length list ≤ place → readAs suites ≡ judged (ofEntries list room (entriesFrom list place)) (suites ++ suitesFrom list place)
+  pub list-ends : (place room : ℕ) (suites : List ℕ) → length list ≤ place →
+      readAs (listed suites (length list)) ≡ judged (ofEntries list room (entriesFrom list place)) (listed (suites ++ suitesFrom list place) (length list))
   unfolding ofEntries leftmost
   list-ends place room suites h = rw (at-end list after place h, append-nil)
 
@@ -117,8 +118,6 @@ module _ (message : List ℕ) (place : ℕ) where
   unfolding packedAt leftmost
   packed-faulty refusal e = rw (e)
 
-  pub packed-list : (start size : ℕ) → blockAt message place ≡ block start size →
-      packedAt message place ≡ mapped (λ (l : List ℕ). listed l (start + size)) (listFrom (take (start + size) message) start)
+  pub packed-list : (start size : ℕ) → blockAt message place ≡ block start size → packedAt message place ≡ listFrom (take (start + size) message) start
   unfolding packedAt listFrom
-  packed-list start size e =
-      rw (e) (judged-mapped (λ (l : List ℕ). listed l (start + size)) (ofEntries (take (start + size) message) 16 (entriesFrom (take (start + size) message) start)) (suitesFrom (take (start + size) message) start))
+  packed-list start size e = rw (e, length-take-le (start + size) message (block-within message place start size e .1))

@@ -85,6 +85,19 @@ nothing = fields (marks false false false false) 0 0 0 0 0
 abbrev pub withMark : Form → Fields → Fields
 withMark form f = fields (marked form (f .read)) (f .place) (f .size) (f .bit) (f .provers) (f .verifiers)
 
+-- The same with what a field held.
+abbrev pub withBytes : (place size : ℕ) → Fields → Fields
+withBytes place size f = fields (marked Bytes (f .read)) place size (f .bit) (f .provers) (f .verifiers)
+
+abbrev pub withBit : (bit : ℕ) → Fields → Fields
+withBit bit f = fields (marked Bit (f .read)) (f .place) (f .size) bit (f .provers) (f .verifiers)
+
+abbrev pub withProvers : (count : ℕ) → Fields → Fields
+withProvers count f = fields (marked Provers (f .read)) (f .place) (f .size) (f .bit) count (f .verifiers)
+
+abbrev pub withVerifiers : (count : ℕ) → Fields → Fields
+withVerifiers count f = fields (marked Verifiers (f .read)) (f .place) (f .size) (f .bit) (f .provers) count
+
 -- The message that fields and two lists are so far.
 abbrev pub viewOf : ℕ → Fields → (provers verifiers : List ℕ) → Message
 viewOf number f provers verifiers =

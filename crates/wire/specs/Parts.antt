@@ -3,7 +3,7 @@
 use mathlib.Core.Path.{_≡_}
 use Prim.Native.Nat.{ℕ, _+_, _-_, _*_, _^_, _≤_}
 use mathlib.Core.List.{List}
-use lib.ListN.{drop}
+use lib.ListN.{length, drop}
 use Rattle.wire.specs.Varint.{Said, says, cut, endless, said, Number, value, fault}
 use Rattle.wire.specs.Layout.{Block, block, faulty, blockAt, afterBlock, entriesFrom}
 use Rattle.wire.specs.Fault.{Reading, readAs, refused, judged}
@@ -16,8 +16,6 @@ use Rattle.wire.specs.declared.varint.Said as first
 use Rattle.wire.specs.declared.varint.Said.the-variants as first-say
 use Rattle.wire.specs.declared.block.Block as part
 use Rattle.wire.specs.declared.block.Block.the-variants as part-is
-use Rattle.wire.specs.declared.list.Counted.{Counted}
-use Rattle.wire.specs.declared.list.Counted.the-variants as counted
 use Rattle.wire.specs.declared.list.Packed.{Packed}
 use Rattle.wire.specs.declared.list.Packed.the-variants as packed
 
@@ -48,25 +46,7 @@ abbrev pub mapped : {A B : Type 0} → (A → B) → Reading A → Reading B
 mapped f (readAs a) = readAs (f a)
 mapped f (refused number) = refused number
 
--- A packed list from `start` to its end.
-unfoldable pub listFrom : List ℕ → ℕ → Reading (List ℕ)
-listFrom bytes start = judged (ofEntries bytes 16 (entriesFrom bytes start)) (suitesFrom bytes start)
-
--- What was read into a list.
-abbrev pub countedIn : Counted → List ℕ → Reading (List ℕ)
-countedIn (counted.Count count) list = readAs (entries count list)
-countedIn (counted.Fault refusal) list = refused (refusalNumber refusal)
-
--- A list of sixteen entries holds so many suites, and then zeros.
-abbrev pub Holds : ℕ → List ℕ → Type 0
-Holds count list = (count ≤ 16) × (list ≡ padded (entries count list))
-
--- The list holds the suites that were counted.
-abbrev pub Counts : Counted → List ℕ → Type 0
-Counts (counted.Count count) list = Holds count list
-Counts (counted.Fault refusal) list = Unit {0}
-
--- The suites of a packed list at a place, and the place after it.
+-- The suites of a packed list, and the place after it.
 pub record Listed : Type 0 where
   pub suites : List ℕ
   pub next : ℕ
@@ -74,6 +54,14 @@ pub record Listed : Type 0 where
 -- The same by its parts in their order.
 abbrev pub listed : List ℕ → ℕ → Listed
 listed suites next = record { suites = suites; next = next }
+
+-- A packed list from `start` to the end of the bytes.
+unfoldable pub listFrom : List ℕ → ℕ → Reading Listed
+listFrom bytes start = judged (ofEntries bytes 16 (entriesFrom bytes start)) (listed (suitesFrom bytes start) (length bytes))
+
+-- A list of sixteen entries holds so many suites, and then zeros.
+abbrev pub Holds : ℕ → List ℕ → Type 0
+Holds count list = (count ≤ 16) × (list ≡ padded (entries count list))
 
 -- The packed list at a place.
 unfoldable pub packedAt : List ℕ → ℕ → Reading Listed

@@ -13,7 +13,7 @@ use Rattle.wire.specs.Faults.{noNumbers, adding, fieldOf, ofContent, ofF
 use Rattle.wire.specs.Message.{Message, made, empty, filled, withField, withFields}
 use Rattle.wire.specs.Numbers.{refusalNumber, entries}
 use Rattle.wire.specs.Parts.{Holds}
-use Rattle.wire.specs.Fields.{Fields, Step, Tidy, TidyStep, fields, marked, proceed, seenIn, stage, stepIn, stop, viewOf, withMark}
+use Rattle.wire.specs.Fields.{Fields, Step, Tidy, TidyStep, proceed, seenIn, stage, stepIn, stop, viewOf, withMark, withBytes, withBit, withProvers, withVerifiers}
 use Rattle.wire.specs.declared.keys.Marks.{Marks}
 use Rattle.wire.specs.declared.plain.Field as plain
 use Rattle.wire.specs.declared.plain.Field.the-variants as plain-field
@@ -49,15 +49,15 @@ pub record FieldStep (number : ℕ) (bytes : List ℕ) (place : ℕ) (f : Fields
 
 -- What a field of a message without lists adds to the fields before it.
 abbrev pub plainStep : plain.Field → Fields → Step
-plainStep (plain-field.Bytes start size) f = proceed (fields (marked Bytes (f .read)) start size (f .bit) (f .provers) (f .verifiers)) (start + size)
-plainStep (plain-field.Bit bit after) f = proceed (fields (marked Bit (f .read)) (f .place) (f .size) bit (f .provers) (f .verifiers)) after
+plainStep (plain-field.Bytes start size) f = proceed (withBytes start size f) (start + size)
+plainStep (plain-field.Bit bit after) f = proceed (withBit bit f) after
 plainStep (plain-field.Fault refusal) f = stop refusal
 
 -- What a field of a hello adds.
 abbrev pub helloStep : hello.Field → Fields → Step
-helloStep (hello-field.Token start size) f = proceed (fields (marked Bytes (f .read)) start size (f .bit) (f .provers) (f .verifiers)) (start + size)
-helloStep (hello-field.Provers count after) f = proceed (fields (marked Provers (f .read)) (f .place) (f .size) (f .bit) count (f .verifiers)) after
-helloStep (hello-field.Verifiers count after) f = proceed (fields (marked Verifiers (f .read)) (f .place) (f .size) (f .bit) (f .provers) count) after
+helloStep (hello-field.Token start size) f = proceed (withBytes start size f) (start + size)
+helloStep (hello-field.Provers count after) f = proceed (withProvers count f) after
+helloStep (hello-field.Verifiers count after) f = proceed (withVerifiers count f) after
 helloStep (hello-field.Fault refusal) f = stop refusal
 
 -- What a field holds, whatever was read before it. Lists are written by their own fields alone.

@@ -2,7 +2,7 @@
 ghost use mathlib.Core.Path.{_≡_};
 ghost use mathlib.Core.List.{[]};
 ghost use Rattle.wire.specs.Numbers.{padded};
-ghost use Rattle.wire.specs.Parts.{Counts, PackedCounts, countedIn, listFrom, packedAt, packedOf};
+ghost use Rattle.wire.specs.Parts.{PackedCounts, listFrom, packedAt, packedOf};
 use crate::Refusal;
 use crate::block::Block;
 use crate::block::block_at;
@@ -11,13 +11,7 @@ use crate::varint::entry;
 
 const MAX_ENTRIES: usize = 16;
 
-// How many suites were read.
-enum Counted {
-    Count(usize),
-    Fault(Refusal),
-}
-
-// The same with the place after the list.
+// How many suites were read, with the place after the list.
 pub enum Packed {
     Suites(usize, usize),
     Fault(Refusal),
@@ -25,20 +19,20 @@ pub enum Packed {
 
 // The entries from `start` to the end of the bytes are written to `suites`, which holds zeros. After a fault it may hold
 // those before it.
-fn entries(bytes: &[u8], start: usize, suites: &mut [u32; 16]) -> Counted
+fn entries(bytes: &[u8], start: usize, suites: &mut [u32; 16]) -> Packed
     requires { ⌜ now suites ≡ padded [] ⌝ }
-    ensures { λ r. ⌜ countedIn r (now (suites .exit)) ≡ listFrom (now (bytes .entry)) start ⌝ }
-    ensures { λ r. ⌜ Counts r (now (suites .exit)) ⌝ }
+    ensures { λ r. ⌜ packedOf r (now (suites .exit)) ≡ listFrom (now (bytes .entry)) start ⌝ }
+    ensures { λ r. ⌜ PackedCounts r (now (suites .exit)) ⌝ }
 {
     let mut count = 0;
     let mut at = start;
     while at < bytes.len() {
         let read = entry(bytes, at);
         match read {
-            Varint::Fault(refusal) => return Counted::Fault(refusal),
+            Varint::Fault(refusal) => return Packed::Fault(refusal),
             Varint::Number(suite, next) => {
                 if count == MAX_ENTRIES {
-                    return Counted::Fault(Refusal::TooManySuites);
+                    return Packed::Fault(Refusal::TooManySuites);
                 }
                 suites[count] = suite;
                 count += 1;
@@ -46,7 +40,7 @@ fn entries(bytes: &[u8], start: usize, suites: &mut [u32; 16]) -> Counted
             }
         }
     }
-    Counted::Count(count)
+    Packed::Suites(count, bytes.len())
 }
 
 // The packed list at a place.
@@ -60,11 +54,7 @@ pub(crate) fn packed_at(bytes: &[u8], place: usize, suites: &mut [u32; 16]) -> P
         Block::Fault(refusal) => Packed::Fault(refusal),
         Block::Bytes(start, size) => {
             let end = start + size;
-            let counted = entries(&bytes[..end], start, suites);
-            match counted {
-                Counted::Fault(refusal) => Packed::Fault(refusal),
-                Counted::Count(count) => Packed::Suites(count, end),
-            }
+            entries(&bytes[..end], start, suites)
         }
     }
 }

@@ -10,7 +10,7 @@ use Rattle.wire.specs.Faults.{ofEntries}
 use Rattle.wire.specs.Layout.{entriesFrom}
 use Rattle.wire.specs.Message.{suitesFrom}
 use Rattle.wire.specs.Numbers.{entries, padded}
-use Rattle.wire.specs.Parts.{numberOf, listFrom}
+use Rattle.wire.specs.Parts.{listed, numberOf, listFrom}
 use Rattle.wire.proofs.Lists.{entry-faulty, one-too-many, entry-taken, list-ends, one-stored, padded-entries}
 use Rattle.wire.proofs.Places.{after-read}
 use Rattle.wire.proofs.list.entries.Statement.{statement}
@@ -22,7 +22,7 @@ Inv-loop bytes start suites₀ count₀ at₀ suites count at =
     × (length read ≡ count)
     × (count ≤ 16)
     × (suites ≡ padded read)
-    × (judged (ofEntries bytes (16 - count) (entriesFrom bytes at)) (read ++ suitesFrom bytes at) ≡ listFrom bytes start)
+    × (judged (ofEntries bytes (16 - count) (entriesFrom bytes at)) (listed (read ++ suitesFrom bytes at) (length bytes)) ≡ listFrom bytes start)
 
 abbrev μ-loop : tie.MeasureT-loop
 μ-loop bytes start suites₀ count₀ at₀ suites count at = length bytes - at
@@ -43,7 +43,7 @@ returns-2 c =
     let s = c .before .before .before .before .before .before .before .before .args .bytes .now in
     let e = sym (c .before .before .before .before .entry .ensures) ∙ ap numberOf (c .before .before .read2 .given .1) in
     let full : 16 - l .count ≡ 0 = omega (arith, c .if1 .taken) in (
-      sym (ap (λ (n : ℕ). judged (ofEntries s n (entriesFrom s (l .at))) (l .inv .0 ++ suitesFrom s (l .at))) full
+      sym (ap (λ (n : ℕ). judged (ofEntries s n (entriesFrom s (l .at))) (listed (l .inv .0 ++ suitesFrom s (l .at)) (length s))) full
           ∙ one-too-many s (l .at) (c .before .before .before .before .before .loop-test .taken) _ _ e _) ∙ l .inv .4,
       tt,
     )
@@ -70,7 +70,7 @@ loop-again c =
       omega (arith, room c),
       rw (l .inv .3, ← l .inv .1) (one-stored (l .inv .0) suite (omega (arith, room c, l .inv .1))),
       entry-taken s (l .at) (c .before .before .before .before .before .loop-test .taken) suite _ e (16 - (l .count + 1)) (l .inv .0)
-          ∙ ap (λ (n : ℕ). judged (ofEntries s n (entriesFrom s (l .at))) (l .inv .0 ++ suitesFrom s (l .at))) (sym more)
+          ∙ ap (λ (n : ℕ). judged (ofEntries s n (entriesFrom s (l .at))) (listed (l .inv .0 ++ suitesFrom s (l .at)) (length s))) (sym more)
           ∙ l .inv .4,
     )
 

@@ -1,10 +1,9 @@
 -- `wire::list::packed_at` meets its contract.
-use mathlib.Core.Path.{sym, ap, subst, _∙_}
+use mathlib.Core.Path.{sym, ap, _∙_}
 use native.Mathlib.Omega.{arith}
 use borrow.Author.Needs.{needs}
 use lib.Seq.{length-take-le}
-use Rattle.wire.specs.Parts.{Counts, blockOf, countedIn, mapped}
-use Rattle.wire.specs.declared.list.Counted.{Counted}
+use Rattle.wire.specs.Parts.{blockOf}
 use Rattle.wire.proofs.Lists.{packed-faulty, packed-list}
 use Rattle.wire.proofs.Places.{block-within}
 use Rattle.wire.proofs.list.packed_at.Statement.{statement}
@@ -27,17 +26,8 @@ returns c =
 
 returns-2 : tie.Need-returns-2
 returns-2 c =
-    let e = sym (c .before .before .before .before .before .before .before .before .before .«block-at» .ensures) ∙ ap blockOf (c .before .before .before .before .before .before .before .part2 .given .1) in
-    let l = c .before .before .before .entries in
-    let r = sym (l .ensures .0) ∙ ap (λ (k : Counted). countedIn k (l .last .1 .1 .0)) (c .before .counted .given .1) in
-    (sym (packed-list _ _ _ _ e ∙ ap (mapped _) r), tt)
-
-returns-3 : tie.Need-returns-3
-returns-3 c =
-    let e = sym (c .before .before .before .before .before .before .before .before .before .«block-at» .ensures) ∙ ap blockOf (c .before .before .before .before .before .before .before .part2 .given .1) in
-    let l = c .before .before .before .entries in
-    let r = sym (l .ensures .0) ∙ ap (λ (k : Counted). countedIn k (l .last .1 .1 .0)) (c .before .counted2 .given .1) in
-    (sym (packed-list _ _ _ _ e ∙ ap (mapped _) r), subst (λ (k : Counted). Counts k (l .last .1 .1 .0)) (c .before .counted2 .given .1) (l .ensures .1))
+    let e = sym (c .before .before .before .before .before .before .«block-at» .ensures) ∙ ap blockOf (c .before .before .before .before .part2 .given .1) in
+    (c .entries .ensures .0 ∙ sym (packed-list _ _ _ _ e), c .entries .ensures .1)
 
 pub packed-at-spec : {M : Type 1} → statement M
 packed-at-spec =
@@ -49,8 +39,5 @@ packed-at-spec =
     add-end
     slice-aggregate-entries
     (λ c κs. search needs)
-    (λ c. search needs)
-    (λ c. search needs)
     returns
-    returns-2
-    returns-3)
+    returns-2)
