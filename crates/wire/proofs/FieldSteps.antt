@@ -9,7 +9,7 @@ use borrow.Author.Tests.{eqb-true, not-false}
 use lib.ListN.{length, take}
 use lib.Seq.{length-take-le}
 use Rattle.wire.specs.Varint.{Number, value, fault, numberAt, asBit}
-use Rattle.wire.specs.Layout.{Block, block, faulty, blockAt, afterBlock, afterNumber, afterKey, places, fieldNumber, wireType, entriesFrom}
+use Rattle.wire.specs.Layout.{Block, block, faulty, blockAt, afterBlock, afterNumber, afterKey, places, fieldNumber, wireType, entriesFrom, fieldsFrom}
 use Rattle.wire.specs.Schema.{isUnknown, wrongType}
 use Rattle.wire.specs.Fault.{Fault, at, faultIf, orElse, leftmost, refused, judged}
 use Rattle.wire.specs.Faults.{FieldNumbers, adding, fieldOf, ofNumber, ofList, ofBytes, ofEntries, ofContent, ofField, ofFields}
@@ -18,7 +18,7 @@ use Rattle.wire.specs.declared.schema.Form.{Form}
 use Rattle.wire.specs.declared.schema.Form.the-variants.{Unknown, Bytes, Provers, Verifiers, Bit}
 use Rattle.wire.proofs.Order.{Between, widen, joined, not-before}
 use Rattle.wire.proofs.Places.{Stands, stands, BlockStands, block-stands}
-use Rattle.wire.proofs.Lists.{entries-between}
+use Rattle.wire.proofs.Lists.{entries-all}
 use Rattle.wire.proofs.Forms.{absurd-bool}
 
 -- The faults of a key: an unexpected field, then a wrong wire type.
@@ -95,7 +95,7 @@ module _ (message : List ℕ) where
           let n : length (take (start + size) message) ≡ start + size = length-take-le (start + size) message (s .1) in
           widen start (length (take (start + size) message)) place (start + size) (omega (arith, s .0)) (omega (arith, n))
           (ofEntries (take (start + size) message) 16 (entriesFrom (take (start + size) message) start))
-          (entries-between (take (start + size) message) (λ p. afterNumber (take (start + size) message) (numberAt (take (start + size) message) p)) 16 (length (take (start + size) message) - start) start start (omega (arith, n)))
+          (entries-all (take (start + size) message) 16 start (omega (arith, n)))
       by-block (faulty refusal) s = let b = s h in ((omega arith, b .0, b .1, b .2), tt)
 
   -- The faults of a content stand from its place to its end.
@@ -139,7 +139,7 @@ module _ (message : List ℕ) where
       by-key (fault refusal) s e = let b = s (omega arith) in ((omega arith, b .0, b .1, b .2), tt)
 
   -- The faults of fields stand where the fields do.
-  pub fields-between : (form : ℕ → Form) (after : ℕ → ℕ) (left place next : ℕ) (former : FieldNumbers) → place + left ≡ length message →
+  fields-between : (form : ℕ → Form) (after : ℕ → ℕ) (left place next : ℕ) (former : FieldNumbers) → place + left ≡ length message →
       Between place (length message) (ofFields form former message (places after place next left))
   unfolding places ofFields
   fields-between form after zero place next former h = tt
@@ -158,3 +158,8 @@ module _ (message : List ℕ) where
           joined place (length message) (ofField form former message place (numberAt message place))
           (ofFields form (adding (fieldOf (numberAt message place)) former) message (places after (suc place) (after place) left))
           here (f (adding (fieldOf (numberAt message place)) former) (after place))
+
+  -- The same of all fields from a place on.
+  pub fields-from : (form : ℕ → Form) (former : FieldNumbers) (start : ℕ) → start ≤ length message →
+      Between start (length message) (ofFields form former message (fieldsFrom message start))
+  fields-from form former start h = fields-between form (λ place. afterKey message (numberAt message place)) (length message - start) start start former (omega arith)

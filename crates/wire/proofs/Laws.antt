@@ -10,7 +10,7 @@ use lib.Dec.{eqb, ltb}
 use lib.ListN.{length, take}
 use lib.Seq.{length-take-le}
 use borrow.Author.Tests.{ltb-true, ltb-false, eqb-true, eqb-false}
-use Rattle.wire.specs.Fault.{Fault, before, firstOf, leftmost, Reading, readAs, refused, byFirst}
+use Rattle.wire.specs.Fault.{Fault, before, firstOf, leftmost, readAs, refused, byFirst}
 use Rattle.wire.specs.Faults.{faultsOf}
 use Rattle.wire.specs.Laws.{RefusedByFirst, MessageFaultless, PartLies}
 use Rattle.wire.specs.Layout.{Block, block, faulty, blockAt, fieldsFrom, fieldNumber}
@@ -20,7 +20,7 @@ use Rattle.wire.specs.Varint.{Number, value, fault, numberAt}
 use Rattle.wire.specs.declared.schema.Form.{Form}
 use Rattle.wire.specs.declared.schema.Form.the-variants.{Unknown, Bytes, Provers, Verifiers, Bit}
 use Rattle.wire.proofs.Forms.{absurd-bool}
-use Rattle.wire.proofs.Order.{not-before}
+use Rattle.wire.proofs.Order.{IsRead, IsRefused, not-before, number-of, read-or}
 use Rattle.wire.proofs.Places.{BlockStands, block-stands}
 
 -- Only an empty list has no first fault.
@@ -44,28 +44,12 @@ none-first (f ∷ fs) e = absurd (subst IsSome e (some-first f (leftmost fs)))
 -- What was read, by the first fault.
 module _ {A : Type 0} (x : A) where
   read-none : (o : Option Fault) (z : A) → byFirst o x ≡ readAs z → (o ≡ none) × (x ≡ z)
-  read-none none z e = (refl, ap (in-it x) e)
-    where
-      in-it : A → Reading A → A
-      in-it d (readAs a) = a
-      in-it d (refused m) = d
-  read-none (some f) z e = absurd (subst is-refused e tt)
-    where
-      is-refused : Reading A → Type 0
-      is-refused (readAs a) = ⊥
-      is-refused (refused m) = Unit {0}
+  read-none none z e = (refl, ap (read-or x) e)
+  read-none (some f) z e = absurd (subst IsRefused e tt)
 
   refused-some : (o : Option Fault) (n : ℕ) → byFirst o x ≡ refused n → (f : Fault) × ((o ≡ some f) × (f .number ≡ n))
-  refused-some none n e = absurd (subst is-read e tt)
-    where
-      is-read : Reading A → Type 0
-      is-read (readAs a) = Unit {0}
-      is-read (refused m) = ⊥
+  refused-some none n e = absurd (subst IsRead e tt)
   refused-some (some f) n e = (f, (refl, ap number-of e))
-    where
-      number-of : Reading A → ℕ
-      number-of (readAs a) = 0
-      number-of (refused m) = m
 
 pub message-faultless : MessageFaultless
 unfolding readingOf

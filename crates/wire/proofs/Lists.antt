@@ -27,7 +27,7 @@ module _ (list : List ℕ) where
       by-number (fault refusal) s = let b = s h in ((omega arith, b .0, b .1, b .2), tt)
 
   -- The faults of entries stand where the entries do.
-  pub entries-between : (after : ℕ → ℕ) (room left place next : ℕ) → place + left ≡ length list →
+  entries-between : (after : ℕ → ℕ) (room left place next : ℕ) → place + left ≡ length list →
       Between place (length list) (ofEntries list room (places after place next left))
   unfolding places ofEntries
   entries-between after room zero place next h = tt
@@ -52,6 +52,10 @@ module _ (list : List ℕ) where
 
   abbrev after : ℕ → ℕ
   after place = afterNumber list (numberAt list place)
+
+  -- The same of all entries from a place on.
+  pub entries-all : (room start : ℕ) → start ≤ length list → Between start (length list) (ofEntries list room (entriesFrom list start))
+  entries-all room start h = entries-between after room (length list - start) start start (omega arith)
 
   module _ (place : ℕ) (h : place < length list) where
     beyond : place < after place
@@ -83,7 +87,7 @@ module _ (list : List ℕ) where
           let here : Between place next (at place 25 ∷ []) = ((omega arith, omega arith, omega arith, omega (arith, within .0)), tt) in
           rw (entry-here, e)
           (append-refused place next (length list) (at place 25 ∷ []) (ofEntries list 0 (entriesFrom list next)) here
-          (entries-between after 0 (length list - next) next next (omega (arith, within .1))) x x 25 refl)
+          (entries-all 0 next (within .1)) x x 25 refl)
 
       pub entry-taken : (room : ℕ) (suites : List ℕ) →
           judged (ofEntries list room (entriesFrom list next)) (listed ((suites ++ (suite ∷ [])) ++ suitesFrom list next) (length list))

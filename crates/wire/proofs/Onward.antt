@@ -18,7 +18,7 @@ use Rattle.wire.specs.Steps.{FieldStep, fieldsOf}
 use Rattle.wire.specs.declared.Refusal.{Refusal}
 use Rattle.wire.specs.declared.schema.Form.{Form}
 use Rattle.wire.specs.declared.schema.Form.the-variants.{Unknown, Bytes, Provers, Verifiers, Bit}
-use Rattle.wire.proofs.FieldSteps.{field-between, field-ends, fields-between}
+use Rattle.wire.proofs.FieldSteps.{field-between, field-ends, fields-from}
 use Rattle.wire.proofs.Order.{Between, append-refused, append-read}
 use Rattle.wire.proofs.Places.{at-end, one-more}
 
@@ -74,8 +74,7 @@ module _ (number : ℕ) (bytes : List ℕ) (start : ℕ) (f : Fields) (provers v
 
     later-between : Between next (length bytes) later
     later-between =
-        fields-between bytes (formIn number) (λ place. afterKey bytes (numberAt bytes place)) (length bytes - next) next next former
-        (omega (arith, field-ends bytes at h .1))
+        fields-from bytes (formIn number) former next (field-ends bytes at h .1)
 
     now : judged (here ++ later) (withFields bytes (fieldsFrom bytes next) (withField bytes (numberAt bytes at) (viewOf number f provers verifiers))) ≡ fieldsOf number bytes start
     unfolding ofFields withFields

@@ -9,7 +9,7 @@ use lib.Dec.{leb, ltb}
 use lib.ListN.{length, take}
 use lib.Seq.{length-take-le}
 use Rattle.wire.specs.Varint.{value, fault, numberAt}
-use Rattle.wire.specs.Layout.{block, faulty, blockAt, afterKey, fieldNumber, wireType, fieldsFrom}
+use Rattle.wire.specs.Layout.{block, faulty, blockAt, fieldNumber, wireType, fieldsFrom}
 use Rattle.wire.specs.Schema.{formIn, outerForm, isUnknown, wrongType}
 use Rattle.wire.specs.Fault.{Fault, at, faultIf, leftmost, readAs, refused, judged}
 use Rattle.wire.specs.Faults.{noNumbers, ofFields, ofInner, ofOuter, faultsOf}
@@ -18,7 +18,7 @@ use Rattle.wire.specs.Steps.{fieldsOf}
 use Rattle.wire.specs.Whole.{Located, innerOf}
 use Rattle.wire.specs.declared.schema.Form.{Form}
 use Rattle.wire.specs.declared.schema.Form.the-variants.{Unknown, Bytes}
-use Rattle.wire.proofs.FieldSteps.{unexpected, wrongly-typed, announced, fields-between}
+use Rattle.wire.proofs.FieldSteps.{unexpected, wrongly-typed, announced, fields-from}
 use Rattle.wire.proofs.Forms.{absurd-bool}
 use Rattle.wire.proofs.Order.{Between, append-refused, append-read}
 use Rattle.wire.proofs.Places.{block-within}
@@ -91,7 +91,7 @@ module _ (number : ℕ) (bytes : List ℕ) (start size : ℕ) (h : start + size 
   fields-stand =
       let n : length message ≡ start + size = length-take-le (start + size) bytes h in
       subst (λ (e : ℕ). Between start e inFields) n
-      (fields-between message (formIn number) (λ place. afterKey message (numberAt message place)) (length message - start) start start noNumbers (omega (arith, n)))
+      (fields-from message (formIn number) noNumbers start (omega (arith, n)))
 
   abbrev following : List Fault
   following = faultIf (ltb (start + size) (length bytes)) (at (start + size) 22)

@@ -77,31 +77,33 @@ leftmost-append lo q hi [] gs b c = refl
 leftmost-append lo q hi (f ∷ fs) gs b c =
     ap (firstOf f) (leftmost-append lo q hi fs gs (b .1) c) ∙ ahead lo q hi f (leftmost fs) (leftmost gs) (b .0) (first-bounds q hi gs c)
 
+-- The two cases of a reading: which it is, and what it holds.
+module _ {A : Type 0} where
+  abbrev pub IsRead : Reading A → Type 0
+  IsRead (readAs a) = Unit {0}
+  IsRead (refused m) = ⊥
+
+  abbrev pub IsRefused : Reading A → Type 0
+  IsRefused (readAs a) = ⊥
+  IsRefused (refused m) = Unit {0}
+
+  abbrev pub read-or : A → Reading A → A
+  read-or d (readAs a) = a
+  read-or d (refused m) = d
+
+  abbrev pub number-of : Reading A → ℕ
+  number-of (readAs a) = 0
+  number-of (refused m) = m
+
 -- The same of what is judged by faults.
 module _ {A B : Type 0} where
   refused-by : (o o′ : Option Fault) (x : A) (y : B) (n : ℕ) → byFirst o x ≡ refused n → byFirst (orLater o o′) y ≡ refused n
-  refused-by none o′ x y n e = absurd (subst read-type e tt)
-    where
-      read-type : Reading A → Type 0
-      read-type (readAs a) = Unit {0}
-      read-type (refused m) = ⊥
+  refused-by none o′ x y n e = absurd (subst IsRead e tt)
   refused-by (some f) o′ x y n e = ap refused (ap number-of e)
-    where
-      number-of : Reading A → ℕ
-      number-of (readAs a) = 0
-      number-of (refused m) = m
 
   read-by : (o o′ : Option Fault) (x z : A) (y : B) → byFirst o x ≡ readAs z → (x ≡ z) × (byFirst (orLater o o′) y ≡ byFirst o′ y)
-  read-by none o′ x z y e = (ap (in-it x) e, refl)
-    where
-      in-it : A → Reading A → A
-      in-it d (readAs a) = a
-      in-it d (refused m) = d
-  read-by (some f) o′ x z y e = absurd (subst refused-type e tt)
-    where
-      refused-type : Reading A → Type 0
-      refused-type (readAs a) = ⊥
-      refused-type (refused m) = Unit {0}
+  read-by none o′ x z y e = (ap (read-or x) e, refl)
+  read-by (some f) o′ x z y e = absurd (subst IsRefused e tt)
 
   module _ (lo q hi : ℕ) (fs gs : List Fault) (b : Between lo q fs) (c : Between q hi gs) where
     pub append-refused : (x : A) (y : B) (n : ℕ) → judged fs x ≡ refused n → judged (fs ++ gs) y ≡ refused n
