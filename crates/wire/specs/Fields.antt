@@ -85,16 +85,19 @@ nothing = fields (marks false false false false) 0 0 0 0 0
 abbrev pub withMark : Form → Fields → Fields
 withMark form f = fields (marked form (f .read)) (f .place) (f .size) (f .bit) (f .provers) (f .verifiers)
 
--- The same with what a field held.
+-- The same with what a field held: bytes.
 abbrev pub withBytes : (place size : ℕ) → Fields → Fields
 withBytes place size f = fields (marked Bytes (f .read)) place size (f .bit) (f .provers) (f .verifiers)
 
+-- A bit.
 abbrev pub withBit : (bit : ℕ) → Fields → Fields
 withBit bit f = fields (marked Bit (f .read)) (f .place) (f .size) bit (f .provers) (f .verifiers)
 
+-- So many prover suites.
 abbrev pub withProvers : (count : ℕ) → Fields → Fields
 withProvers count f = fields (marked Provers (f .read)) (f .place) (f .size) (f .bit) count (f .verifiers)
 
+-- So many verifier suites.
 abbrev pub withVerifiers : (count : ℕ) → Fields → Fields
 withVerifiers count f = fields (marked Verifiers (f .read)) (f .place) (f .size) (f .bit) (f .provers) count
 
