@@ -78,7 +78,7 @@ fn handshake_timeouts() {
         &[],
     );
     show(
-        b"H reports while RA runs on",
+        b"H reports while the token is missing",
         EXPIRED,
         timeout(timers::H, 9),
         &[],

@@ -81,7 +81,7 @@ pub(crate) const VERIFIER_RUNS: Connection = Connection {
     ack: 0,
 };
 
-// WAIT_FOR_DAT_AND_RA, with RA running on.
+// WAIT_FOR_DAT_AND_RA.
 pub(crate) const EXPIRED: Connection = Connection {
     state: 5,
     awaiting_ack: 0,
@@ -93,11 +93,11 @@ pub(crate) const EXPIRED: Connection = Connection {
     prover: 8,
     verifier: 0,
     dat: 0,
-    ra: 4,
+    ra: 0,
     ack: 0,
 };
 
-// WAIT_FOR_DAT_AND_RA_VERIFIER, with RA off.
+// WAIT_FOR_DAT_AND_RA_VERIFIER.
 pub(crate) const EXPIRED_PROVED: Connection = Connection {
     state: 6,
     awaiting_ack: 0,
@@ -190,5 +190,21 @@ pub(crate) const READY_WITHOUT_RA: Connection = Connection {
     verifier: 0,
     dat: 2,
     ra: 0,
+    ack: 0,
+};
+
+// WAIT_FOR_DAT_AND_RA with RA on, which is not well formed.
+pub(crate) const EXPIRED_WITH_RA: Connection = Connection {
+    state: 5,
+    awaiting_ack: 0,
+    next_send_bit: 0,
+    expected_bit: 0,
+    cached_len: 0,
+    handled: 9,
+    h: 9,
+    prover: 8,
+    verifier: 0,
+    dat: 0,
+    ra: 4,
     ack: 0,
 };

@@ -9,6 +9,7 @@ use crate::events::token;
 use crate::events::with_bit;
 use crate::print;
 use crate::records::BOTH_RUN;
+use crate::records::EXPIRED_WITH_RA;
 use crate::records::GREETED;
 use crate::records::LOCKED;
 use crate::records::READY;
@@ -66,9 +67,15 @@ fn numbers() {
     show(b"DATA with bit 2", READY, with_bit(codes::SC_DATA, 2), &[]);
     show(b"ACK with bit 2", WAITING, with_bit(codes::SC_ACK, 2), &[]);
     show(
-        b"a record that is not well formed",
+        b"RA is off in ESTABLISHED",
         READY_WITHOUT_RA,
         plain(codes::UPPER_SEND_DATA),
+        &[],
+    );
+    show(
+        b"RA is on while the token is missing",
+        EXPIRED_WITH_RA,
+        plain(codes::SC_RE_RA),
         &[],
     );
     show(

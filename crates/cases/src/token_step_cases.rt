@@ -25,7 +25,7 @@ fn expiry() {
         &[],
     );
     show(
-        b"the prover runs, RA runs on",
+        b"the prover runs, RA is cancelled",
         PROVER_RUNS,
         tagged(codes::DAT_TIMEOUT, 2),
         &[],
@@ -42,13 +42,13 @@ fn expiry() {
 fn renewal() {
     print::heading(b"step: the token returns");
     show(
-        b"RA ran on and is cancelled",
+        b"the prover runs",
         EXPIRED,
         token(codes::SC_DAT, true, 87_400),
         &[],
     );
     show(
-        b"RA is off and gets no cancel",
+        b"the prover has succeeded",
         EXPIRED_PROVED,
         token(codes::SC_DAT, true, 1_001),
         &[],

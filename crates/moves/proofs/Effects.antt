@@ -24,7 +24,7 @@ use Rattle.event.specs.declared.Input.{Input}
 use Rattle.table.proofs.Arms.{one-of}
 use Rattle.table.proofs.Finite.{and-left, and-right, is-false, cells, cells-at}
 use Rattle.record.proofs.EveryTimer.{timers, timers-at}
-use Rattle.record.proofs.WellFormed.{offIn, parts, off, on}
+use Rattle.record.proofs.WellFormed.{parts, off, on}
 
 pub true-or-false : (b : Bool) → (b ≡ true) ⊎ (b ≡ false)
 true-or-false true = inl refl
@@ -39,63 +39,60 @@ pub order-if : (b : Bool) (e f : Effect) (tag : ℕ) → orderBy (cond b e f) ta
 order-if true e f tag = refl
 order-if false e f tag = refl
 
--- Whether an effect fits the rules of a timer that starts, ends and reports, or not, and is off or on in the state before.
-abbrev fits : Effect → (starts ends reports off on : Bool) → Bool
-fits keep s e r off on = not s && (not e || off)
-fits start s e r off on = s
-fits cancel s e r off on = not s && (e && (not r && on))
-fits expire s e r off on = not s && (e && r)
-fits clear s e r off on = not s && ((e || off) && (not r || off))
+-- Whether an effect fits the rules of a timer that starts, ends and reports, or not, and runs in the state before, or not.
+abbrev fits : Effect → (starts ends reports runs : Bool) → Bool
+fits keep s e r on = not s && not (e && on)
+fits start s e r on = s
+fits cancel s e r on = not s && (e && (not r && on))
+fits expire s e r on = not s && (e && r)
+fits clear s e r on = not s && (e && not r)
 
-tag-fits : (x : Effect) (s e r off on : Bool) (number tag : ℕ) → (T off → tag ≡ 0) → T (fits x s e r off on) → tagBy x number tag ≡ tagAfter s e number tag
-tag-fits keep true e r off on n t z f = absurd f
-tag-fits keep false true r true on n t z f = z tt
-tag-fits keep false true r false on n t z f = absurd f
-tag-fits keep false false r off on n t z f = refl
-tag-fits start true e r off on n t z f = refl
-tag-fits start false e r off on n t z f = absurd f
-tag-fits cancel true e r off on n t z f = absurd f
-tag-fits cancel false true r off on n t z f = refl
-tag-fits cancel false false r off on n t z f = absurd f
-tag-fits expire true e r off on n t z f = absurd f
-tag-fits expire false true r off on n t z f = refl
-tag-fits expire false false r off on n t z f = absurd f
-tag-fits clear true e r off on n t z f = absurd f
-tag-fits clear false true r off on n t z f = refl
-tag-fits clear false false r true on n t z f = sym (z tt)
-tag-fits clear false false r false on n t z f = absurd f
+tag-fits : (x : Effect) (s e r on : Bool) (number tag : ℕ) → (T (not on) → tag ≡ 0) → T (fits x s e r on) → tagBy x number tag ≡ tagAfter s e number tag
+tag-fits keep true e r on n t z f = absurd f
+tag-fits keep false true r true n t z f = absurd f
+tag-fits keep false true r false n t z f = z tt
+tag-fits keep false false r on n t z f = refl
+tag-fits start true e r on n t z f = refl
+tag-fits start false e r on n t z f = absurd f
+tag-fits cancel true e r on n t z f = absurd f
+tag-fits cancel false true r on n t z f = refl
+tag-fits cancel false false r on n t z f = absurd f
+tag-fits expire true e r on n t z f = absurd f
+tag-fits expire false true r on n t z f = refl
+tag-fits expire false false r on n t z f = absurd f
+tag-fits clear true e r on n t z f = absurd f
+tag-fits clear false true r on n t z f = refl
+tag-fits clear false false r on n t z f = absurd f
 
 -- A timer with tag 0 gets no cancel.
 no-cancel : (r : Bool) → _≡_ {A = ℕ} 0 (cond (not r && false) 2 0)
 no-cancel true = refl
 no-cancel false = refl
 
-order-fits : (x : Effect) (s e r off on : Bool) (tag : ℕ) → (T off → tag ≡ 0) → (T on → eqb tag 0 ≡ false) → T (fits x s e r off on) → orderBy x tag ≡ timerOrder s e r tag
-order-fits keep true e r off on t z o f = absurd f
-order-fits keep false true r true on t z o f = rw (z tt) (no-cancel r)
-order-fits keep false true r false on t z o f = absurd f
-order-fits keep false false r off on t z o f = refl
-order-fits start true e r off on t z o f = refl
-order-fits start false e r off on t z o f = absurd f
-order-fits cancel true e r off on t z o f = absurd f
-order-fits cancel false true true off on t z o f = absurd f
-order-fits cancel false true false off true t z o f = rw (o tt)
-order-fits cancel false true false off false t z o f = absurd f
-order-fits cancel false false r off on t z o f = absurd f
-order-fits expire true e r off on t z o f = absurd f
-order-fits expire false true true off on t z o f = refl
-order-fits expire false true false off on t z o f = absurd f
-order-fits expire false false r off on t z o f = absurd f
-order-fits clear true e r off on t z o f = absurd f
-order-fits clear false true true true on t z o f = rw (z tt)
-order-fits clear false true true false on t z o f = absurd f
-order-fits clear false true false off on t z o f = refl
-order-fits clear false false r true on t z o f = rw (z tt)
-order-fits clear false false r false on t z o f = absurd f
+order-fits : (x : Effect) (s e r on : Bool) (tag : ℕ) → (T (not on) → tag ≡ 0) → (T on → eqb tag 0 ≡ false) → T (fits x s e r on) → orderBy x tag ≡ timerOrder s e r tag
+order-fits keep true e r on t z o f = absurd f
+order-fits keep false true r true t z o f = absurd f
+order-fits keep false true r false t z o f = rw (z tt) (no-cancel r)
+order-fits keep false false r on t z o f = refl
+order-fits start true e r on t z o f = refl
+order-fits start false e r on t z o f = absurd f
+order-fits cancel true e r on t z o f = absurd f
+order-fits cancel false true true on t z o f = absurd f
+order-fits cancel false true false true t z o f = rw (o tt)
+order-fits cancel false true false false t z o f = absurd f
+order-fits cancel false false r on t z o f = absurd f
+order-fits expire true e r on t z o f = absurd f
+order-fits expire false true true on t z o f = refl
+order-fits expire false true false on t z o f = absurd f
+order-fits expire false false r on t z o f = absurd f
+order-fits clear true e r on t z o f = absurd f
+order-fits clear false true true on t z o f = absurd f
+order-fits clear false true false on t z o f = refl
+order-fits clear false false r on t z o f = absurd f
 
 -- What event k, from state s to another, does to a timer fits its rules.
 abbrev effectFits : (s k to : ℕ) → Timer → Bool
-effectFits s k to x = fits (effectOf k s to x) (starts x k s to) (ends x k s to) (reports x k 0) (offIn x s) (runsIn x s)
+effectFits s k to x = fits (effectOf k to x) (starts x k s to) (ends x to) (reports x k 0) (runsIn x s)
 
 -- An event that is ignored, locks, or moves on with effects that fit.
 abbrev moveFits : (s k to : ℕ) → Bool
@@ -158,19 +155,19 @@ module _ (limits : Limits) (connection : Connection) (code : ℕ) (input : Input
   unfolding fitting
   is-moving = fitting .moves
 
-  tag-of : (x : Timer) → tagBy (effectOf code (connection .state) to x) (raised connection) (tagOf connection x) ≡ tagsAfter connection code to x
-  tag-of x = tag-fits (effectOf code (connection .state) to x) (starts x code (connection .state) to) (ends x code (connection .state) to) (reports x code 0) (offIn x (connection .state)) (runsIn x (connection .state)) (raised connection) (tagOf connection x) (off limits connection (parts limits connection well) x) (fitting .effect x)
+  tag-of : (x : Timer) → tagBy (effectOf code to x) (raised connection) (tagOf connection x) ≡ tagsAfter connection code to x
+  tag-of x = tag-fits (effectOf code to x) (starts x code (connection .state) to) (ends x to) (reports x code 0) (runsIn x (connection .state)) (raised connection) (tagOf connection x) (off limits connection (parts limits connection well) x) (fitting .effect x)
 
-  order-of : (x : Timer) → orderBy (effectOf code (connection .state) to x) (tagOf connection x) ≡ ordersOf connection code input to x
+  order-of : (x : Timer) → orderBy (effectOf code to x) (tagOf connection x) ≡ ordersOf connection code input to x
   order-of x =
-      order-fits (effectOf code (connection .state) to x) (starts x code (connection .state) to) (ends x code (connection .state) to) (reports x code 0) (offIn x (connection .state)) (runsIn x (connection .state)) (tagOf connection x) (off limits connection (parts limits connection well) x) (on limits connection (parts limits connection well) x) (fitting .effect x)
-      ∙ ap (λ (r : Bool). timerOrder (starts x code (connection .state) to) (ends x code (connection .state) to) r (tagOf connection x)) (reports-by x code (input .timer) (fitting .no-timeout))
+      order-fits (effectOf code to x) (starts x code (connection .state) to) (ends x to) (reports x code 0) (runsIn x (connection .state)) (tagOf connection x) (off limits connection (parts limits connection well) x) (on limits connection (parts limits connection well) x) (fitting .effect x)
+      ∙ ap (λ (r : Bool). timerOrder (starts x code (connection .state) to) (ends x to) r (tagOf connection x)) (reports-by x code (input .timer) (fitting .no-timeout))
 
   -- What the code does for an event that moves on is what the definitions say.
   pub by-event : byEvent (raised connection) connection code input to ≡ handledTo to connection code input
   unfolding advance actionsOf
   by-event =
-      let effect = effectOf code (connection .state) to in
+      let effect = effectOf code to in
       let p = moved-by (λ x. tagBy (effect x) (raised connection) (tagOf connection x)) (tagsAfter connection code to) tag-of (raised connection) connection code input to in
       let q = actions-by (λ x. orderBy (effect x) (tagOf connection x)) (ordersOf connection code input to) order-of connection code input in
       let p′ = p ∙ sym (otherwise (eqb to 9) (locked (raised connection)) _ stays) in

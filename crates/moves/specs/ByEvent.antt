@@ -6,7 +6,6 @@ use mathlib.Core.List.{List, [], _∷_}
 use lib.Dec.{eqb}
 use lib.ListN.{getD}
 use Rattle.protocol.specs.Orders as order
-use Rattle.table.specs.Sets.{isIn}
 use Rattle.record.specs.Tags.{tagOf}
 use Rattle.record.specs.Timer.{Timer, H, HP, HV, DAT, RA, ACK}
 use Rattle.protocol.specs.Timers.{timerOrder}
@@ -30,9 +29,9 @@ six h hp hv dat ra ack DAT = dat
 six h hp hv dat ra ack RA = ra
 six h hp hv dat ra ack ACK = ack
 
--- A row for each code from 0 to 23, of the state before and the state after.
-abbrev pub effects : (from to : ℕ) → List (Timer → Effect)
-effects from to =
+-- A row for each code from 0 to 23, by the state after.
+abbrev pub effects : (to : ℕ) → List (Timer → Effect)
+effects to =
     let nothing = six keep keep keep keep keep keep in
     let ifWaiting = cond (eqb to 8) start keep in
     six start keep keep keep keep keep  -- 0
@@ -48,7 +47,7 @@ effects from to =
     ∷ nothing  -- 10
     ∷ six cancel start start start keep keep  -- 11
     ∷ nothing  -- 12
-    ∷ six cancel keep start start clear keep  -- 13
+    ∷ six cancel keep start start keep keep  -- 13
     ∷ six keep start keep keep keep clear  -- 14
     ∷ nothing  -- 15
     ∷ nothing  -- 16
@@ -56,14 +55,14 @@ effects from to =
     ∷ nothing  -- 18
     ∷ six keep keep keep keep keep clear  -- 19
     ∷ nothing  -- 20
-    ∷ six start keep clear expire (cond (isIn (7 ∷ 8 ∷ []) from) cancel keep) clear  -- 21
+    ∷ six start keep clear expire clear clear  -- 21
     ∷ six keep keep start keep expire clear  -- 22
     ∷ six keep keep keep keep keep start  -- 23
     ∷ []
 
 -- The row of a code.
-abbrev pub effectOf : (code from to : ℕ) → Timer → Effect
-effectOf code from to = getD (effects from to) code (six keep keep keep keep keep keep)
+abbrev pub effectOf : (code to : ℕ) → Timer → Effect
+effectOf code to = getD (effects to) code (six keep keep keep keep keep keep)
 
 -- The tag that an effect leaves.
 abbrev pub tagBy : Effect → (number tag : ℕ) → ℕ
@@ -84,7 +83,7 @@ orderBy clear tag = timerOrder false true false tag
 -- A handled event that doesn't lock.
 abbrev pub byEvent : (number : ℕ) → Connection → (code : ℕ) → Input → (to : ℕ) → Outcome
 byEvent number connection code input to =
-    let effect = effectOf code (connection .state) to in
+    let effect = effectOf code to in
     record {
       answer = Handled;
       connection = moved (λ timer. tagBy (effect timer) number (tagOf connection timer)) number connection code input to;

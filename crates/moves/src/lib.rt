@@ -204,13 +204,11 @@ pub fn renew_token(connection: Connection, input: Input, to: u32, number: u32) -
     after.h = 0;
     after.verifier = number;
     after.dat = number;
-    after.ra = 0;
     let mut actions = sheet::NO_ACTIONS;
     actions.verifier = orders::START;
     actions.h = orders::CANCEL;
     actions.hv = orders::START;
     actions.dat = orders::START;
-    actions.ra = sheet::cancel(false, connection.ra);
     actions.dat_seconds = input.seconds;
     Outcome {
         answer: Answer::Handled,
@@ -248,27 +246,24 @@ pub fn verify_again(
     }
 }
 
-// DAT_TIMEOUT: the peer has to send a fresh token, and is then verified anew. In WAIT_FOR_RA_PROVER
-// RA runs on.
+// DAT_TIMEOUT: the peer has to send a fresh token, and is then verified anew.
 pub fn expire_token(connection: Connection, input: Input, to: u32, number: u32) -> Outcome
     ensures { λ r. ⌜ r ≡ byEvent number connection 21 input to ⌝ }
 {
-    let ready = (connection.state == states::ESTABLISHED)
-        | (connection.state == states::WAIT_FOR_ACK);
     let mut after = connection;
     after.state = to;
     after.handled = number;
     after.h = number;
     after.verifier = 0;
     after.dat = 0;
-    after.ra = pick(ready, 0, connection.ra);
+    after.ra = 0;
     after.ack = 0;
     let mut actions = sheet::NO_ACTIONS;
     actions.message = orders::DAT_EXPIRED;
     actions.verifier = sheet::stop(false, connection.verifier);
     actions.h = orders::START;
     actions.hv = sheet::cancel(false, connection.verifier);
-    actions.ra = pick(ready, orders::CANCEL, orders::NONE);
+    actions.ra = sheet::cancel(false, connection.ra);
     actions.ack = sheet::cancel(false, connection.ack);
     Outcome {
         answer: Answer::Handled,

@@ -17,7 +17,7 @@ use Rattle.protocol.specs.History.{History, first, runs, stateOf}
 use Rattle.record.specs.declared.Connection.{Connection}
 use Rattle.protocol.proofs.Standings.{consistent, flagOf, Alone, alone}
 use Rattle.record.proofs.EveryTimer.{timers-at}
-use Rattle.record.proofs.WellFormed.{freeIn, Parts, whole}
+use Rattle.record.proofs.WellFormed.{Parts, whole}
 use Rattle.table.proofs.Finite.{is-false}
 
 -- The state that the notes stand for.
@@ -36,8 +36,7 @@ pub record Follows (limits : Limits) (size : ℕ) (history : History) (connectio
   pub expected-bit : history .expected ≤ 1
   pub early : T (isIn (0 ∷ 1 ∷ []) (stands history)) → (history .nextSend ≡ 0) × (history .expected ≡ 0)
   pub none-yet : T (eqb (stands history) 0) → history .count ≡ 0
-  -- RA may be on where the history has it off.
-  pub tag : (x : Timer) → tagOf connection x ≡ cond (runs (history .notes) x) (history .since x) (cond (freeIn x (stands history)) (tagOf connection x) 0)
+  pub tag : (x : Timer) → tagOf connection x ≡ cond (runs (history .notes) x) (history .since x) 0
   pub tag-past : (x : Timer) → tagOf connection x ≤ connection .handled
   pub started : (x : Timer) → T (runs (history .notes) x) → 0 < history .since x
   -- The cache holds the block, also after its acknowledgement; the record has its length while it waits.
@@ -54,10 +53,6 @@ no-timer x = is-false _ (timers-at (λ x. not (runs (first .notes) x)) tt x)
 tag-0 : (x : Timer) → tagOf fresh x ≡ 0
 tag-0 x = eqb→eq _ _ (timers-at (λ x. eqb (tagOf fresh x) 0) tt x)
 
-free-or-0 : (free : Bool) (tag : ℕ) → tag ≡ 0 → tag ≡ cond free tag 0
-free-or-0 true tag e = refl
-free-or-0 false tag e = e
-
 pub follows-first : (limits : Limits) (cache : List ℕ) → Follows limits (length cache) first fresh cache
 unfolding consistent stateOf
 follows-first limits cache = record {
@@ -71,7 +66,7 @@ follows-first limits cache = record {
   expected-bit = omega arith;
   early = λ t. (refl, refl);
   none-yet = λ t. refl;
-  tag = λ x. rw (no-timer x) (free-or-0 (freeIn x (stands first)) (tagOf fresh x) (tag-0 x));
+  tag = λ x. rw (no-timer x) (tag-0 x);
   tag-past = λ x. let e = tag-0 x in omega arith;
   started = λ x t. absurd (subst T (no-timer x) t);
   length-is = refl;
@@ -102,11 +97,9 @@ bits-law false true false x y h = rw (h tt .0, h tt .1)
 bits-law false false true x y h = refl
 bits-law false false false x y h = refl
 
-tag-fits-law : (free running : Bool) (since tag : ℕ) → tag ≡ cond running since (cond free tag 0) → (T running → 0 < since)
-    → cond free true (cond running (not (eqb tag 0)) (eqb tag 0)) ≡ true
-tag-fits-law true running since tag e h = refl
-tag-fits-law false true since tag e h = let s = h tt in rw (ne-eqb tag 0 (λ z. omega arith))
-tag-fits-law false false since tag e h = eq-eqb tag 0 e
+tag-fits-law : (running : Bool) (since tag : ℕ) → tag ≡ cond running since 0 → (T running → 0 < since) → cond running (not (eqb tag 0)) (eqb tag 0) ≡ true
+tag-fits-law true since tag e h = let s = h tt in rw (ne-eqb tag 0 (λ z. omega arith))
+tag-fits-law false since tag e h = eq-eqb tag 0 e
 
 -- R: the record follows the history.
 module _ (limits : Limits) (size : ℕ) (history : History) (connection : Connection) (cache : List ℕ) (R : Follows limits size history connection cache) where
@@ -116,10 +109,10 @@ module _ (limits : Limits) (size : ℕ) (history : History) (connection : Connec
   here : Alone (history .notes)
   here = alone (history .notes) (R .notes-fit)
 
-  tag-fits : (x : Timer) → cond (freeIn x (connection .state)) true (onJustIn x (connection .state) (tagOf connection x)) ≡ true
+  tag-fits : (x : Timer) → onJustIn x (connection .state) (tagOf connection x) ≡ true
   tag-fits x =
-      ap (λ (s : ℕ). cond (freeIn x s) true (onJustIn x s (tagOf connection x))) (R .state)
-      ∙ rw (here .running x) (tag-fits-law (freeIn x (stands history)) (runs (history .notes) x) (history .since x) (tagOf connection x) (R .tag x) (R .started x))
+      ap (λ (s : ℕ). onJustIn x s (tagOf connection x)) (R .state)
+      ∙ rw (here .running x) (tag-fits-law (runs (history .notes) x) (history .since x) (tagOf connection x) (R .tag x) (R .started x))
 
   pub parts-of : Parts limits connection
   parts-of = record {

@@ -8,7 +8,7 @@ use native.Mathlib.Omega.{arith}
 use lib.Dec.{T, eqb}
 use borrow.Author.Tests.{eqb-true, ne-eqb}
 use Rattle.record.specs.Limits.{Limits}
-use Rattle.record.specs.Tags.{isRa, raMayRun, tagOf}
+use Rattle.record.specs.Tags.{tagOf}
 use Rattle.record.specs.WellFormed.{flagFits}
 use Rattle.protocol.specs.Condition.{Condition, live, goodHello, goodToken, expectedBit, nextSendBit, nothing, conditionOf, isLive, meets}
 use Rattle.protocol.specs.History.{History, Heard, hear, counts, notesAfter, runs}
@@ -48,11 +48,10 @@ same-tag : (tag since own : ℕ) (b : Bool) → eqb tag since ≡ b → own ≡ 
 same-tag tag since own true q e h = let t = eqb-true tag since q in rw (e, ne-eqb tag 0 (λ z. omega arith))
 same-tag tag since own false q e h = rw (e, q) (sym (and-false (not (eqb tag 0))))
 
-live-law : (running ra may : Bool) (tag since own : ℕ) → own ≡ cond running since (cond (ra && may) own 0) → (T running → 0 < since)
-    → T (Bool·beq (running && eqb tag since) (running && isLive tag own) && (not (isLive tag own) || (running || ra)))
-live-law true ra may tag since own e h = rw (same-tag tag since own (eqb tag since) refl e (h tt), or-true, and-true) (beq-refl (isLive tag own))
-live-law false true may tag since own e h = rw or-true tt
-live-law false false may tag since own e h = rw (e, not-and-self) tt
+live-law : (running : Bool) (tag since own : ℕ) → own ≡ cond running since 0 → (T running → 0 < since)
+    → T (Bool·beq (isLive tag own) (running && eqb tag since) && (not (isLive tag own) || running))
+live-law true tag since own e h = rw (same-tag tag since own (eqb tag since) refl e (h tt), or-true, and-true) (beq-refl (isLive tag own))
+live-law false tag since own e h = rw (e, not-and-self) tt
 
 -- A bit, which a locked record has forgotten.
 bit-law : (nine : Bool) (bit x y : ℕ) → x ≡ cond nine 0 y → T (nine || Bool·beq (eqb bit x) (eqb bit y))
@@ -73,7 +72,7 @@ none-at-9 s false true e f t = absurd t
 -- R: the record follows the history.
 module _ (limits : Limits) (size : ℕ) (history : History) (connection : Connection) (cache : List ℕ) (R : Follows limits size history connection cache) (input : Input) where
   pub hearing : (condition : Condition) → T (related (history .notes) condition (meets connection input condition) (heardAt (hear history input) condition))
-  hearing (live x) = live-law (runs (history .notes) x) (isRa x) (raMayRun (stands history)) (input .tag) (history .since x) (tagOf connection x) (R .tag x) (R .started x)
+  hearing (live x) = live-law (runs (history .notes) x) (input .tag) (history .since x) (tagOf connection x) (R .tag x) (R .started x)
   hearing goodHello = beq-refl (input .good && input .suites .found)
   hearing goodToken = beq-refl (input .good)
   hearing expectedBit = bit-law (eqb (stands history) 9) (input .bit) (connection .«expected_bit») (history .expected) (R .expected)

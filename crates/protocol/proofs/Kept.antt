@@ -27,28 +27,23 @@ use Rattle.protocol.proofs.Hearing.{heardAt, asks-once, hearing}
 use Rattle.protocol.proofs.Moved.{Advanced, advanced}
 use Rattle.protocol.proofs.Standings.{ruled, tagGoes, Moves, Agree, agree}
 use Rattle.protocol.proofs.Stepped.{Faultless, payload-length}
-use Rattle.record.proofs.WellFormed.{freeIn}
 use Rattle.table.proofs.Finite.{and-left, and-right, is-false, implied, below-at}
 
 -- Laws over tests and numbers. None of them knows the table.
 
--- A tag: what starts has the new number, what runs on keeps its own, what the history has off is off or free.
-tag-law : (was is wasFree isFree started ended again : Bool) (number since tag : ℕ) → tag ≡ cond was since (cond wasFree tag 0)
-    → T (tagGoes was is wasFree isFree started ended again)
-    → tagAfter started ended number tag ≡ cond is (sinceAfter was is again number since) (cond isFree (tagAfter started ended number tag) 0)
-tag-law true true wf f true e true n s t p g = refl
-tag-law true true wf f true e false n s t p g = absurd g
-tag-law false true wf f true e a n s t p g = refl
-tag-law true true wf f false e true n s t p g = absurd g
-tag-law true true wf f false true false n s t p g = absurd g
-tag-law true true wf f false false false n s t p g = p
-tag-law false true wf f false e a n s t p g = absurd g
-tag-law was false wf f true e a n s t p g = absurd g
-tag-law was false wf true false e a n s t p g = refl
-tag-law was false wf false false true a n s t p g = refl
-tag-law true false wf false false false a n s t p g = absurd g
-tag-law false false true false false false a n s t p g = absurd g
-tag-law false false false false false false a n s t p g = p
+-- A tag: what starts has the new number, what runs on keeps its own, what the history has off is off.
+tag-law : (was is started ended again : Bool) (number since tag : ℕ) → tag ≡ cond was since 0 → T (tagGoes was is started ended again)
+    → tagAfter started ended number tag ≡ cond is (sinceAfter was is again number since) 0
+tag-law true true true e true n s t p g = refl
+tag-law true true true e false n s t p g = absurd g
+tag-law false true true e a n s t p g = refl
+tag-law true true false e true n s t p g = absurd g
+tag-law true true false true false n s t p g = absurd g
+tag-law true true false false false n s t p g = p
+tag-law false true false e a n s t p g = absurd g
+tag-law was false true e a n s t p g = absurd g
+tag-law was false false true a n s t p g = refl
+tag-law was false false false a n s t p g = absurd g
 
 tag-most : (started ended : Bool) (number tag : ℕ) → tag ≤ number → tagAfter started ended number tag ≤ number
 tag-most s e n t h = cond-most s n (cond e 0 t) n (omega arith) (cond-most e 0 t n (omega arith) h)
@@ -155,26 +150,18 @@ module _ (limits : Limits) (size : ℕ) (history : History) (connection : Connec
     given : T (eqb k 2) → input .«payload_len» ≡ length (call .payload)
     given t = payload-length limits call (length cache) faultless (carries t)
 
-    tag-is : (x : Timer) → tagOf c′ x ≡ tagAfter (starts x k (stands history) (stateOf m)) (ends x k (stands history) (stateOf m)) (history .count + 1) (tagOf connection x)
-    tag-is x =
-        A .tag x
-        ∙ ap (λ (s : ℕ). tagAfter (starts x k s (stateOf m)) (ends x k s (stateOf m)) (raised connection) (tagOf connection x)) (R .state)
-        ∙ ap (λ (c : ℕ). tagAfter (starts x k (stands history) (stateOf m)) (ends x k (stands history) (stateOf m)) (c + 1) (tagOf connection x)) (R .number)
-
-    tag-after : (x : Timer) → tagOf c′ x ≡ cond (runs m x) (sinceAfter (runs n x) (runs m x) (restarts x k) (history .count + 1) (history .since x)) (cond (freeIn x (stateOf m)) (tagOf c′ x) 0)
+    tag-after : (x : Timer) → tagOf c′ x ≡ cond (runs m x) (sinceAfter (runs n x) (runs m x) (restarts x k) (history .count + 1) (history .since x)) 0
     tag-after x =
-        let s = sinceAfter (runs n x) (runs m x) (restarts x k) (history .count + 1) (history .since x) in
-        tag-is x
-        ∙ tag-law (runs n x) (runs m x) (freeIn x (stands history)) (freeIn x (stateOf m)) (starts x k (stands history) (stateOf m)) (ends x k (stands history) (stateOf m)) (restarts x k)
-        (history .count + 1) (history .since x) (tagOf connection x) (R .tag x) (G .tags x)
-        ∙ ap (λ (v : ℕ). cond (runs m x) s (cond (freeIn x (stateOf m)) v 0)) (sym (tag-is x))
+        A .tag x
+        ∙ (λ i. tagAfter (starts x k (R .state i) (stateOf m)) (ends x (stateOf m)) (R .number i + 1) (tagOf connection x))
+        ∙ tag-law (runs n x) (runs m x) (starts x k (stands history) (stateOf m)) (ends x (stateOf m)) (restarts x k) (history .count + 1) (history .since x) (tagOf connection x) (R .tag x) (G .tags x)
 
     tag-past : (x : Timer) → tagOf c′ x ≤ c′ .handled
     tag-past x =
         let e = A .tag x in
         let f = A .number in
         let p = R .tag-past x in
-        let h = tag-most (starts x k (connection .state) (stateOf m)) (ends x k (connection .state) (stateOf m)) (raised connection) (tagOf connection x) (omega arith) in
+        let h = tag-most (starts x k (connection .state) (stateOf m)) (ends x (stateOf m)) (raised connection) (tagOf connection x) (omega arith) in
         omega arith
 
     early : T (isIn (0 ∷ 1 ∷ []) (stateOf m)) → (cond (acknowledged n k heard) (1 - history .nextSend) (history .nextSend) ≡ 0) × (cond (receives n k heard) (1 - history .expected) (history .expected) ≡ 0)

@@ -6,7 +6,7 @@ use mathlib.Core.Bool.{Bool, true, false, not, _&&_, _||_, cond, Bool·beq}
 use mathlib.Core.List.{[], _∷_}
 use Prim.Native.Nat.{ℕ, _<_, _≤_}
 use lib.Dec.{T, eqb, eqb→eq, leb, leb→le}
-use Rattle.record.specs.Tags.{runsIn, isRa}
+use Rattle.record.specs.Tags.{runsIn}
 use Rattle.record.specs.Timer.{Timer, H}
 use Rattle.record.specs.WellFormed.{flagFits}
 use Rattle.table.specs.Sets.{isIn}
@@ -17,7 +17,6 @@ use Rattle.protocol.specs.History.{Heard, accepts, acknowledged, receive
 use Rattle.protocol.specs.Notes.{Opening, fresh, helloSent, opened, locked, DriverRun, off, running, good, Notes, isRunning, isGood, attested}
 use Rattle.protocol.specs.Timers.{starts, ends}
 use Rattle.record.proofs.EveryTimer.{timers, timers-at}
-use Rattle.record.proofs.WellFormed.{freeIn}
 use Rattle.table.proofs.Finite.{and-left, and-right, is-true, is-false, same, implied, below, below-at, either, either-at}
 
 -- A test of every opening, of every run, and of all notes.
@@ -82,21 +81,19 @@ fitsAlone n =
 abbrev pub only : Bool → Heard
 only h = record { live = λ x. h; named = H; goodHello = h; goodToken = h; expectedBit = h; nextSendBit = h }
 
--- What the history hears of a condition, and how that goes with whether it holds for the record: a locked record has forgotten
--- its bits, and RA may be on in the record where the history has it off.
+-- What the history hears of a condition, and how that goes with whether it holds for the record, which once locked has forgotten its bits.
 abbrev pub related : Notes → Condition → (held heard : Bool) → Bool
-related n (live x) b h = Bool·beq h (runs n x && b) && (not b || (runs n x || isRa x))
+related n (live x) b h = Bool·beq b h && (not b || runs n x)
 related n goodHello b h = Bool·beq b h
 related n goodToken b h = Bool·beq b h
 related n expectedBit b h = eqb (stateOf n) 9 || Bool·beq b h
 related n nextSendBit b h = Bool·beq b (n .waiting && h)
 related n nothing b h = b && h
 
--- Whether what an event does to a timer's tag fits the history, which has the timer running before or not, and after or not; the tag may
--- be free before or after, and the event starts it, ends it, or starts it again.
-abbrev pub tagGoes : (was is wasFree isFree started ended again : Bool) → Bool
-tagGoes was is wasFree isFree started ended again =
-    cond is (Bool·beq started (not was || again) && (started || not ended)) (not started && (ended || (isFree || (not was && not wasFree))))
+-- Whether what an event does to a timer's tag fits the history, which has the timer running before or not, and after or not: the event
+-- starts it, ends it, or starts it again.
+abbrev pub tagGoes : (was is started ended again : Bool) → Bool
+tagGoes was is started ended again = cond is (Bool·beq started (not was || again) && (started || not ended)) (not started && ended)
 
 -- What the history's rules say of an event.
 pub record Ruled : Type 0 where
@@ -125,7 +122,7 @@ moves n k r m =
     && eqb (cond (eqb (stateOf m) 9) 0 (flagAfter k (flagOf n))) (flagOf m)
     && Bool·beq (cond (eqb (stateOf m) 9) false (cond (eqb k 2) true (cond (eqb k 19) false (n .waiting)))) (m .waiting)
     && (not (isIn (0 ∷ 1 ∷ []) (stateOf m)) || (isIn (0 ∷ 1 ∷ []) (stateOf n) && (not (eqb k 18) && not (eqb k 19))))
-    && timers (λ x. tagGoes (runs n x) (runs m x) (freeIn x (stateOf n)) (freeIn x (stateOf m)) (starts x k (stateOf n) (stateOf m)) (ends x k (stateOf n) (stateOf m)) (restarts x k))
+    && timers (λ x. tagGoes (runs n x) (runs m x) (starts x k (stateOf n) (stateOf m)) (ends x (stateOf m)) (restarts x k))
     && (not (isIn (2 ∷ 23 ∷ []) k || eqb k 18) || (attested n && attested m))
     && (not (eqb k 23) || n .waiting)
 
@@ -176,7 +173,7 @@ pub record Moves (n : Notes) (k : ℕ) (r : Ruled) (m : Notes) : Type 0 where
   pub flag : cond (eqb (stateOf m) 9) 0 (flagAfter k (flagOf n)) ≡ flagOf m
   pub waits : cond (eqb (stateOf m) 9) false (cond (eqb k 2) true (cond (eqb k 19) false (n .waiting))) ≡ m .waiting
   pub early : T (not (isIn (0 ∷ 1 ∷ []) (stateOf m)) || (isIn (0 ∷ 1 ∷ []) (stateOf n) && (not (eqb k 18) && not (eqb k 19))))
-  pub tags : (x : Timer) → T (tagGoes (runs n x) (runs m x) (freeIn x (stateOf n)) (freeIn x (stateOf m)) (starts x k (stateOf n) (stateOf m)) (ends x k (stateOf n) (stateOf m)) (restarts x k))
+  pub tags : (x : Timer) → T (tagGoes (runs n x) (runs m x) (starts x k (stateOf n) (stateOf m)) (ends x (stateOf m)) (restarts x k))
   pub guarded : T (not (isIn (2 ∷ 23 ∷ []) k || eqb k 18) || (attested n && attested m))
   pub repeats : T (not (eqb k 23) || n .waiting)
 
@@ -191,7 +188,7 @@ moves-by n k r m t = record {
   flag = eqb→eq _ _ (search (and-left, and-right) depth 16);
   waits = same _ _ (search (and-left, and-right) depth 16);
   early = search (and-left, and-right) depth 16;
-  tags = timers-at (λ x. tagGoes (runs n x) (runs m x) (freeIn x (stateOf n)) (freeIn x (stateOf m)) (starts x k (stateOf n) (stateOf m)) (ends x k (stateOf n) (stateOf m)) (restarts x k)) (search (and-left, and-right) depth 16);
+  tags = timers-at (λ x. tagGoes (runs n x) (runs m x) (starts x k (stateOf n) (stateOf m)) (ends x (stateOf m)) (restarts x k)) (search (and-left, and-right) depth 16);
   guarded = search (and-left, and-right) depth 16;
   repeats = search (and-left, and-right) depth 16;
 }

@@ -124,7 +124,7 @@ movingActions orders connection code input = record {
 -- Each timer's order by its rules.
 abbrev pub ordersOf : Connection → (code : ℕ) → Input → (to : ℕ) → Timer → ℕ
 ordersOf connection code input to timer =
-    timerOrder (starts timer code (connection .state) to) (ends timer code (connection .state) to)
+    timerOrder (starts timer code (connection .state) to) (ends timer to)
     (reports timer code (input .timer)) (tagOf connection timer)
 
 -- The actions of a handled event that leads to a state.

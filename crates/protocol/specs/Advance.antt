@@ -57,7 +57,7 @@ moved tags number connection code input to = record {
 -- Each timer's tag by its rules.
 abbrev pub tagsAfter : Connection → (code to : ℕ) → Timer → ℕ
 tagsAfter connection code to timer =
-    tagAfter (starts timer code (connection .state) to) (ends timer code (connection .state) to)
+    tagAfter (starts timer code (connection .state) to) (ends timer to)
     (raised connection) (tagOf connection timer)
 
 -- The record after a handled event that leads to a state.

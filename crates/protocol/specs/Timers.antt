@@ -4,7 +4,7 @@ use mathlib.Core.Bool.{Bool, false, not, _&&_, _||_, cond}
 use mathlib.Core.List.{[], _∷_}
 use lib.Dec.{eqb}
 use Rattle.protocol.specs.Orders.{none, start, cancel}
-use Rattle.record.specs.Tags.{runsIn, isRa}
+use Rattle.record.specs.Tags.{runsIn}
 use Rattle.record.specs.Timer.{Timer, H, HP, HV, DAT, RA, ACK}
 use Rattle.table.specs.Sets.{isIn}
 
@@ -25,22 +25,13 @@ startsAgain DAT code = false
 startsAgain RA code = false
 startsAgain ACK code = eqb code 23
 
--- RA starts at event 4; no locked connection starts a timer.
-abbrev pub raStarts : (code to : ℕ) → Bool
-raStarts code to = not (eqb to 9) && eqb code 4
-
--- RA ends by locking, when a verifier starts, and when 21 is handled in 7 or 8.
-abbrev pub raEnds : (code from to : ℕ) → Bool
-raEnds code from to = eqb to 9 || startsVerifier code || (eqb code 21 && isIn (7 ∷ 8 ∷ []) from)
-
--- A timer starts on coming into its states, or again within them; RA by its own rule. State 9 is no timer's, so locking starts none.
+-- A timer starts on coming into its states, or again within them. State 9 is no timer's, so locking starts none.
 abbrev pub starts : Timer → (code from to : ℕ) → Bool
-starts timer code from to =
-    cond (isRa timer) (raStarts code to) (runsIn timer to && (not (runsIn timer from) || startsAgain timer code))
+starts timer code from to = runsIn timer to && (not (runsIn timer from) || startsAgain timer code)
 
--- A timer ends, or is off already, where the next state is none of its states; RA by its own rule.
-abbrev pub ends : Timer → (code from to : ℕ) → Bool
-ends timer code from to = cond (isRa timer) (raEnds code from to) (not (runsIn timer to))
+-- A timer ends, or is off already, where the next state is none of its states.
+abbrev pub ends : Timer → (to : ℕ) → Bool
+ends timer to = not (runsIn timer to)
 
 -- Whether the event reports this timer. Event 20 names one of the handshake timers: 0 H, 1 HP, 2 HV.
 abbrev pub reports : Timer → (code name : ℕ) → Bool

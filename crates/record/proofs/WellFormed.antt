@@ -3,28 +3,14 @@
 use mathlib.Core.Path.{_≡_}
 use mathlib.Core.Bool.{Bool, true, false, not, _&&_, _||_, cond}
 use Prim.Native.Nat.{ℕ, _≤_}
-use native.Mathlib.Omega.{arith}
 use lib.Dec.{T, eqb, leb, leb→le}
 use borrow.Author.Tests.{le-leb, eqb-true, not-true}
 use Rattle.record.specs.Limits.{Limits}
-use Rattle.record.specs.Tags.{tagOf, runsIn, raMayRun, isRa}
+use Rattle.record.specs.Tags.{tagOf, runsIn}
 use Rattle.record.specs.Timer.{Timer, H, HP, HV, DAT, RA, ACK}
 use Rattle.record.specs.WellFormed.{fieldsFit, tagsAtMost, numberFits, bitsFit, flagFits, fitsState, onJustIn, wellFormed}
 use Rattle.record.specs.declared.Connection.{Connection}
-use Rattle.record.proofs.EveryTimer.{timers, timers-at}
-use Rattle.table.proofs.Finite.{and-left, and-right, is-true, below-at}
-
--- Whether a tag may be on or off in a state.
-abbrev pub freeIn : Timer → (state : ℕ) → Bool
-freeIn timer state = isRa timer && raMayRun state
-
--- Whether a timer's tag is off in a state, whatever the record.
-abbrev pub offIn : Timer → (state : ℕ) → Bool
-offIn timer state = not (runsIn timer state) && not (freeIn timer state)
-
--- What document 01 says of a timer's tag: free, or on just where the timer runs.
-abbrev tagFits : Timer → Connection → Bool
-tagFits timer c = cond (freeIn timer (c .state)) true (onJustIn timer (c .state) (tagOf c timer))
+use Rattle.table.proofs.Finite.{and-left, and-right, is-true}
 
 pub record Parts (limits : Limits) (c : Connection) : Type 0 where
   pub state : c .state ≤ 9
@@ -37,7 +23,7 @@ pub record Parts (limits : Limits) (c : Connection) : Type 0 where
   pub number-fits : numberFits (c .state) (c .handled) ≡ true
   pub bits-fit : bitsFit (c .state) (c .«next_send_bit») (c .«expected_bit») ≡ true
   pub flag-fits : flagFits (c .state) (c .«awaiting_ack») ≡ true
-  pub tag-fits : (timer : Timer) → tagFits timer c ≡ true
+  pub tag-fits : (timer : Timer) → onJustIn timer (c .state) (tagOf c timer) ≡ true
 
 pub state-fits : (limits : Limits) (c : Connection) → T (fieldsFit limits c) → T (leb (c .state) 9)
 state-fits limits c t = search (and-left, and-right) depth 16
@@ -50,7 +36,7 @@ tag-at-most c t DAT = search (and-left, and-right) depth 16
 tag-at-most c t RA = search (and-left, and-right) depth 16
 tag-at-most c t ACK = search (and-left, and-right) depth 16
 
-each-tag-fits : (c : Connection) → T (fitsState (c .state) c) → (timer : Timer) → T (tagFits timer c)
+each-tag-fits : (c : Connection) → T (fitsState (c .state) c) → (timer : Timer) → T (onJustIn timer (c .state) (tagOf c timer))
 each-tag-fits c t H = search (and-left, and-right) depth 16
 each-tag-fits c t HP = search (and-left, and-right) depth 16
 each-tag-fits c t HV = search (and-left, and-right) depth 16
@@ -101,34 +87,26 @@ whole limits c p =
       p .number-fits,
       p .bits-fit,
       p .flag-fits,
-      p .tag-fits RA,
       p .tag-fits H,
       p .tag-fits HP,
       p .tag-fits HV,
       p .tag-fits DAT,
+      p .tag-fits RA,
       p .tag-fits ACK,
     ) tt
 
 -- A tag's rule where it is off, and where it is on.
-just-off : (runs free : Bool) (tag : ℕ) → cond free true (cond runs (not (eqb tag 0)) (eqb tag 0)) ≡ true → T (not runs && not free) → tag ≡ 0
-just-off true free tag t o = absurd o
-just-off false true tag t o = absurd o
-just-off false false tag t o = eqb-true tag 0 t
+just-off : (runs : Bool) (tag : ℕ) → cond runs (not (eqb tag 0)) (eqb tag 0) ≡ true → T (not runs) → tag ≡ 0
+just-off true tag t o = absurd o
+just-off false tag t o = eqb-true tag 0 t
 
-just-on : (runs free : Bool) (tag : ℕ) → T (not (runs && free)) → cond free true (cond runs (not (eqb tag 0)) (eqb tag 0)) ≡ true → T runs → eqb tag 0 ≡ false
-just-on true true tag n t o = absurd n
-just-on true false tag n t o = not-true (eqb tag 0) t
-just-on false free tag n t o = absurd o
-
--- No timer is free in a state in which it runs.
-runs-or-free : (timer : Timer) (state : ℕ) → state ≤ 9 → T (not (runsIn timer state && freeIn timer state))
-runs-or-free timer state h =
-    timers-at (λ x. not (runsIn x state && freeIn x state))
-    (below-at 10 (λ s. timers (λ x. not (runsIn x s && freeIn x s))) tt state (omega arith)) timer
+just-on : (runs : Bool) (tag : ℕ) → cond runs (not (eqb tag 0)) (eqb tag 0) ≡ true → T runs → eqb tag 0 ≡ false
+just-on true tag t o = not-true (eqb tag 0) t
+just-on false tag t o = absurd o
 
 module _ (limits : Limits) (c : Connection) (p : Parts limits c) (timer : Timer) where
-  pub off : T (offIn timer (c .state)) → tagOf c timer ≡ 0
-  off = just-off (runsIn timer (c .state)) (freeIn timer (c .state)) (tagOf c timer) (p .tag-fits timer)
+  pub off : T (not (runsIn timer (c .state))) → tagOf c timer ≡ 0
+  off = just-off (runsIn timer (c .state)) (tagOf c timer) (p .tag-fits timer)
 
   pub on : T (runsIn timer (c .state)) → eqb (tagOf c timer) 0 ≡ false
-  on = just-on (runsIn timer (c .state)) (freeIn timer (c .state)) (tagOf c timer) (runs-or-free timer (c .state) (p .state)) (p .tag-fits timer)
+  on = just-on (runsIn timer (c .state)) (tagOf c timer) (p .tag-fits timer)

@@ -1,6 +1,6 @@
 -- Document 01, "The record and its tags": the tags of the timers, and where each runs.
 use Prim.Native.Nat.{ℕ}
-use mathlib.Core.Bool.{Bool, true, false}
+use mathlib.Core.Bool.{Bool}
 use mathlib.Core.List.{[], _∷_}
 use Rattle.table.specs.Sets.{isIn}
 use Rattle.record.specs.Timer.{Timer, H, HP, HV, DAT, RA, ACK}
@@ -15,7 +15,7 @@ tagOf connection DAT = connection .dat
 tagOf connection RA = connection .ra
 tagOf connection ACK = connection .ack
 
--- The states in which a timer runs: its tag is on just there. RA may run on in 5 and 6 too (`raMayRun`).
+-- The states in which a timer runs: its tag is on just there.
 abbrev pub runsIn : Timer → ℕ → Bool
 runsIn H = isIn (1 ∷ 5 ∷ 6 ∷ [])
 runsIn HP = isIn (2 ∷ 3 ∷ 5 ∷ [])
@@ -23,16 +23,3 @@ runsIn HV = isIn (2 ∷ 4 ∷ [])
 runsIn DAT = isIn (2 ∷ 3 ∷ 4 ∷ 7 ∷ 8 ∷ [])
 runsIn RA = isIn (3 ∷ 7 ∷ 8 ∷ [])
 runsIn ACK = isIn (8 ∷ [])
-
--- The states in which RA may be on or off.
-abbrev pub raMayRun : ℕ → Bool
-raMayRun = isIn (5 ∷ 6 ∷ [])
-
--- Whether a timer is RA, which starts and ends by rules of its own; the other five go by their states.
-abbrev pub isRa : Timer → Bool
-isRa H = false
-isRa HP = false
-isRa HV = false
-isRa DAT = false
-isRa RA = true
-isRa ACK = false

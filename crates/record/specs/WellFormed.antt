@@ -5,7 +5,7 @@ use mathlib.Core.List.{[], _∷_}
 use lib.Dec.{eqb, leb}
 use Rattle.record.specs.Limits.{Limits}
 use Rattle.table.specs.Sets.{isIn}
-use Rattle.record.specs.Tags.{runsIn, raMayRun}
+use Rattle.record.specs.Tags.{runsIn}
 use Rattle.record.specs.Timer.{Timer, H, HP, HV, DAT, RA, ACK}
 use Rattle.record.specs.declared.Connection.{Connection}
 
@@ -66,21 +66,17 @@ numberFits state number = cond (eqb state 0) (eqb number 0) true
 abbrev pub onJustIn : Timer → (state tag : ℕ) → Bool
 onJustIn timer state tag = cond (runsIn timer state) (not (eqb tag 0)) (eqb tag 0)
 
--- RA is on or off in 5 and 6.
-abbrev pub raFits : (state tag : ℕ) → Bool
-raFits state tag = cond (raMayRun state) true (onJustIn RA state tag)
-
 -- What a record has to be in its state.
 abbrev pub fitsState : (state : ℕ) → Connection → Bool
 fitsState state connection =
     numberFits state (connection .handled)
     && bitsFit state (connection .«next_send_bit») (connection .«expected_bit»)
     && flagFits state (connection .«awaiting_ack»)
-    && raFits state (connection .ra)
     && onJustIn H state (connection .h)
     && onJustIn HP state (connection .prover)
     && onJustIn HV state (connection .verifier)
     && onJustIn DAT state (connection .dat)
+    && onJustIn RA state (connection .ra)
     && onJustIn ACK state (connection .ack)
 
 -- The whole list of document 01.

@@ -31,11 +31,11 @@ fn fits_closed_unlocked(c: Connection) -> bool
     (c.handled == 0)
         & ((c.next_send_bit == 0) & (c.expected_bit == 0))
         & (c.awaiting_ack == 0)
-        & (c.ra == 0)
         & (c.h == 0)
         & (c.prover == 0)
         & (c.verifier == 0)
         & (c.dat == 0)
+        & (c.ra == 0)
         & (c.ack == 0)
 }
 
@@ -44,53 +44,53 @@ fn fits_wait_for_hello(c: Connection) -> bool
 {
     ((c.next_send_bit == 0) & (c.expected_bit == 0))
         & (c.awaiting_ack == 0)
-        & (c.ra == 0)
         & (c.h != 0)
         & (c.prover == 0)
         & (c.verifier == 0)
         & (c.dat == 0)
+        & (c.ra == 0)
         & (c.ack == 0)
 }
 
 fn fits_wait_for_ra(c: Connection) -> bool
     ensures { λ r. ⌜ r ≡ fitsState 2 c ⌝ }
 {
-    (c.ra == 0) & (c.h == 0) & (c.prover != 0) & (c.verifier != 0) & (c.dat != 0) & (c.ack == 0)
+    (c.h == 0) & (c.prover != 0) & (c.verifier != 0) & (c.dat != 0) & (c.ra == 0) & (c.ack == 0)
 }
 
 fn fits_wait_for_ra_prover(c: Connection) -> bool
     ensures { λ r. ⌜ r ≡ fitsState 3 c ⌝ }
 {
-    (c.ra != 0) & (c.h == 0) & (c.prover != 0) & (c.verifier == 0) & (c.dat != 0) & (c.ack == 0)
+    (c.h == 0) & (c.prover != 0) & (c.verifier == 0) & (c.dat != 0) & (c.ra != 0) & (c.ack == 0)
 }
 
 fn fits_wait_for_ra_verifier(c: Connection) -> bool
     ensures { λ r. ⌜ r ≡ fitsState 4 c ⌝ }
 {
-    (c.ra == 0) & (c.h == 0) & (c.prover == 0) & (c.verifier != 0) & (c.dat != 0) & (c.ack == 0)
+    (c.h == 0) & (c.prover == 0) & (c.verifier != 0) & (c.dat != 0) & (c.ra == 0) & (c.ack == 0)
 }
 
 fn fits_wait_for_dat_and_ra(c: Connection) -> bool
     ensures { λ r. ⌜ r ≡ fitsState 5 c ⌝ }
 {
-    (c.h != 0) & (c.prover != 0) & (c.verifier == 0) & (c.dat == 0) & (c.ack == 0)
+    (c.h != 0) & (c.prover != 0) & (c.verifier == 0) & (c.dat == 0) & (c.ra == 0) & (c.ack == 0)
 }
 
 fn fits_wait_for_dat_and_ra_verifier(c: Connection) -> bool
     ensures { λ r. ⌜ r ≡ fitsState 6 c ⌝ }
 {
-    (c.h != 0) & (c.prover == 0) & (c.verifier == 0) & (c.dat == 0) & (c.ack == 0)
+    (c.h != 0) & (c.prover == 0) & (c.verifier == 0) & (c.dat == 0) & (c.ra == 0) & (c.ack == 0)
 }
 
 fn fits_established(c: Connection) -> bool
     ensures { λ r. ⌜ r ≡ fitsState 7 c ⌝ }
 {
     (c.awaiting_ack == 0)
-        & (c.ra != 0)
         & (c.h == 0)
         & (c.prover == 0)
         & (c.verifier == 0)
         & (c.dat != 0)
+        & (c.ra != 0)
         & (c.ack == 0)
 }
 
@@ -98,11 +98,11 @@ fn fits_wait_for_ack(c: Connection) -> bool
     ensures { λ r. ⌜ r ≡ fitsState 8 c ⌝ }
 {
     (c.awaiting_ack == 1)
-        & (c.ra != 0)
         & (c.h == 0)
         & (c.prover == 0)
         & (c.verifier == 0)
         & (c.dat != 0)
+        & (c.ra != 0)
         & (c.ack != 0)
 }
 
@@ -111,10 +111,10 @@ fn fits_closed_locked(c: Connection) -> bool
 {
     ((c.next_send_bit == 0) & (c.expected_bit == 0))
         & (c.awaiting_ack == 0)
-        & (c.ra == 0)
         & (c.h == 0)
         & (c.prover == 0)
         & (c.verifier == 0)
         & (c.dat == 0)
+        & (c.ra == 0)
         & (c.ack == 0)
 }
