@@ -50,7 +50,7 @@ no-timer : (x : Timer) → runs (first .notes) x ≡ false
 unfolding runs
 no-timer x = is-false _ (timers-at (λ x. not (runs (first .notes) x)) tt x)
 
-tag-0 : (x : Timer) → tagOf fresh x ≡ 0
+pub tag-0 : (x : Timer) → tagOf fresh x ≡ 0
 tag-0 x = eqb→eq _ _ (timers-at (λ x. eqb (tagOf fresh x) 0) tt x)
 
 pub follows-first : (limits : Limits) (cache : List ℕ) → Follows limits (length cache) first fresh cache

@@ -1,5 +1,6 @@
 pub mod Agreement
 pub mod Always
+pub mod Audit
 mod BlockEvents
 pub mod Blocks
 pub mod Carried
@@ -9,6 +10,7 @@ pub mod Follows
 mod Hearing
 pub mod Joined
 mod Kept
+pub mod Live
 pub mod Moved
 mod Standings
 pub mod Stepped

@@ -14,3 +14,6 @@ pub mod Notes
 pub mod History
 pub mod Agreement
 pub mod Always
+pub mod Live
+pub mod Along
+pub mod Audit

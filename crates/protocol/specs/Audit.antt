@@ -1,0 +1,120 @@
+-- Request #102, the timer audit: what the orders have started, and neither ended nor seen reported, is what the record has a tag for.
+-- The ledger is kept from the events, the answers and the actions alone. It reads no record and no state.
+use Prim.Native.Nat.{ℕ, _+_}
+use mathlib.Core.Path.{_≡_}
+use mathlib.Core.Bool.{Bool, true, false, not, _&&_, cond}
+use mathlib.Core.List.{List, [], _∷_}
+use mathlib.Core.Option.{Option, none, some}
+use lib.Dec.{T, eqb}
+use Rattle.event.specs.Call.{Call}
+use Rattle.event.specs.Kind.{kindOf, fieldsOf}
+use Rattle.record.specs.Limits.{Limits}
+use Rattle.record.specs.Tags.{tagOf}
+use Rattle.record.specs.Timer.{Timer, H, HP, HV, DAT, RA, ACK}
+use Rattle.record.specs.WellFormed.{fresh}
+use Rattle.table.specs.Sets.{isIn}
+use Rattle.protocol.specs.Along.{Along}
+use Rattle.protocol.specs.Agreement.{isHandled, when}
+use Rattle.protocol.specs.Orders as order
+use Rattle.protocol.specs.Run.{resultsOf}
+use Rattle.protocol.specs.Step.{Result}
+use Rattle.protocol.specs.Timers.{reports}
+use Rattle.protocol.specs.declared.Actions.{Actions}
+use Rattle.protocol.specs.declared.Answer.{Answer}
+use Rattle.protocol.specs.declared.Answer.the-variants.{Handled, Ignored, Refused}
+
+-- What a host runs for a connection: the six timers and the two drivers.
+pub data Task : Type 0 where
+  timer : Timer → Task
+  prover verifier : Task
+
+-- The timer whose tag it has: a driver shares the tag of its timer.
+abbrev pub timerOf : Task → Timer
+timerOf (timer x) = x
+timerOf prover = HP
+timerOf verifier = HV
+
+-- The order that it gets.
+abbrev pub orderTo : Actions → Task → ℕ
+orderTo actions (timer H) = actions .h
+orderTo actions (timer HP) = actions .hp
+orderTo actions (timer HV) = actions .hv
+orderTo actions (timer DAT) = actions .dat
+orderTo actions (timer RA) = actions .ra
+orderTo actions (timer ACK) = actions .ack
+orderTo actions prover = actions .prover
+orderTo actions verifier = actions .verifier
+
+-- The order that ends it.
+abbrev pub ending : Task → ℕ
+ending (timer x) = order.cancel
+ending prover = order.stop
+ending verifier = order.stop
+
+-- Whether an event says that it has ended by itself: a timeout of the timer, OK or FAILED of the driver.
+abbrev pub reportsEnd : Task → (code name : ℕ) → Bool
+reportsEnd (timer x) code name = reports x code name
+reportsEnd prover code name = isIn (7 ∷ 8 ∷ []) code
+reportsEnd verifier code name = isIn (4 ∷ 5 ∷ []) code
+
+-- The ledger: how many calls were handled, and the tag of each task that runs.
+pub record Ledger : Type 0 where
+  pub handled : ℕ
+  pub running : Task → Option ℕ
+
+-- At first nothing was handled and nothing runs.
+abbrev pub nothingRuns : Ledger
+nothingRuns = record { handled = 0; running = λ task. none }
+
+-- Whether a task runs.
+abbrev pub isOn : Option ℕ → Bool
+isOn none = false
+isOn (some own) = true
+
+-- Whether it runs with this tag.
+abbrev pub isOnWith : (tag : ℕ) → Option ℕ → Bool
+isOnWith tag none = false
+isOnWith tag (some own) = eqb tag own
+
+-- Whether a call reports the end of a task that runs, with its tag.
+abbrev pub reported : Ledger → Call → Task → Bool
+reported ledger call task =
+    let carried = fieldsOf (kindOf (call .event)) in
+    reportsEnd task (call .event .code) (carried .timer) && isOnWith (carried .tag) (ledger .running task)
+
+-- A refused call is not seen.
+abbrev pub isSeen : Answer → Bool
+isSeen Handled = true
+isSeen Ignored = true
+isSeen (Refused number) = false
+
+-- What runs once the call is seen: what it reports does not.
+abbrev pub runningYet : Ledger → Call → Answer → Task → Option ℕ
+runningYet ledger call answer task = cond (isSeen answer && reported ledger call task) none (ledger .running task)
+
+-- What runs after an order: what is started has the number of handled calls as tag.
+abbrev pub obeyed : (given end number : ℕ) → Option ℕ → Option ℕ
+obeyed given end number running = cond (eqb given order.start) (some number) (cond (eqb given end) none running)
+
+-- The ledger after a call.
+abbrev pub entered : Ledger → Call → Result → Ledger
+entered ledger call result =
+    let answer = result .outcome .answer in
+    let number = cond (isHandled answer) (ledger .handled + 1) (ledger .handled) in
+    record {
+      handled = number;
+      running = λ task. obeyed (orderTo (result .outcome .actions) task) (ending task) number (runningYet ledger call answer task);
+    }
+
+-- What the audit finds at a call, given the ledger before it.
+pub record Audited (ledger : Ledger) (call : Call) (result : Result) : Type 0 where
+  -- After the call just the tasks whose tags are on run, each with that tag.
+  pub tags-on : (task : Task) → let tag = tagOf (result .outcome .connection) (timerOf task) in entered ledger call result .running task ≡ when (not (eqb tag 0)) tag
+  -- What is cancelled, stopped or passed a message runs: nothing is ended twice.
+  pub orders-fit : (task : Task) → T (isIn (ending task ∷ order.forward ∷ []) (orderTo (result .outcome .actions) task)) → T (isOn (runningYet ledger call (result .outcome .answer) task))
+  -- The report of what runs is handled or refused.
+  pub reports-heard : (task : Task) → T (reported ledger call task) → result .outcome .answer ≡ Ignored → ⊥
+
+-- The audit: so it is at every call of any list of calls from a fresh record, ignored and refused ones included.
+abbrev pub Audit : Limits → Type 0
+Audit limits = (cache : List ℕ) (calls : List Call) → Along Audited entered nothingRuns calls (resultsOf limits fresh cache calls)
