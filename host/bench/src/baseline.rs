@@ -141,34 +141,32 @@ fn running(c: &Connection) -> u32 {
         | u32::from(c.ack != 0) << 5
 }
 
-/// Of each state: the timers that run, those that may, and the greatest flag and bits. The flag is 1 in WAIT_FOR_ACK.
+/// Of each state: the timers that run, and the greatest flag and bits. The flag is 1 in WAIT_FOR_ACK.
 struct Fit {
     runs: u32,
-    may_run: u32,
     most_flag: u32,
     most_bit: u32,
 }
 
-const fn fit(runs: u32, may_run: u32, most_flag: u32, most_bit: u32) -> Fit {
+const fn fit(runs: u32, most_flag: u32, most_bit: u32) -> Fit {
     Fit {
         runs,
-        may_run,
         most_flag,
         most_bit,
     }
 }
 
 const FITS: [Fit; 10] = [
-    fit(0b00_0000, 0, 0, 0),
-    fit(0b00_0001, 0, 0, 0),
-    fit(0b00_1110, 0, 1, 1),
-    fit(0b01_1010, 0, 1, 1),
-    fit(0b00_1100, 0, 1, 1),
-    fit(0b00_0011, 0b01_0000, 1, 1),
-    fit(0b00_0001, 0b01_0000, 1, 1),
-    fit(0b01_1000, 0, 0, 1),
-    fit(0b11_1000, 0, 1, 1),
-    fit(0b00_0000, 0, 0, 0),
+    fit(0b00_0000, 0, 0),
+    fit(0b00_0001, 0, 0),
+    fit(0b00_1110, 1, 1),
+    fit(0b01_1010, 1, 1),
+    fit(0b00_1100, 1, 1),
+    fit(0b00_0011, 1, 1),
+    fit(0b00_0001, 1, 1),
+    fit(0b01_1000, 0, 1),
+    fit(0b11_1000, 1, 1),
+    fit(0b00_0000, 0, 0),
 ];
 
 fn well_formed(c: &Connection) -> bool {
@@ -181,7 +179,7 @@ fn well_formed(c: &Connection) -> bool {
             .max(c.dat)
             .max(c.ra)
             .max(c.ack);
-    running(c) & !fit.may_run == fit.runs
+    running(c) == fit.runs
         && c.awaiting_ack <= fit.most_flag
         && (c.next_send_bit | c.expected_bit) <= fit.most_bit
         && highest <= c.handled
@@ -377,14 +375,12 @@ fn renew_token(c: &mut Connection, e: &Event, a: &mut Actions) -> u32 {
     a.h = CANCEL;
     a.hv = START;
     a.dat = START;
-    a.ra = end(c.ra);
     a.dat_seconds = seconds;
     c.state = if c.state == 5 { 2 } else { 4 };
     c.handled = n;
     c.h = 0;
     c.verifier = n;
     c.dat = n;
-    c.ra = 0;
     HANDLED
 }
 
@@ -502,15 +498,13 @@ fn expire_token(c: &mut Connection, e: &Event, a: &mut Actions) -> u32 {
     a.verifier = if c.verifier != 0 { STOP } else { 0 };
     a.h = START;
     a.hv = end(c.verifier);
+    a.ra = end(c.ra);
     a.ack = end(c.ack);
-    if c.state >= 7 {
-        a.ra = CANCEL;
-        c.ra = 0;
-    }
     c.state = if c.prover != 0 { 5 } else { 6 };
     c.h = n;
     c.verifier = 0;
     c.dat = 0;
+    c.ra = 0;
     c.ack = 0;
     HANDLED
 }

@@ -4,7 +4,7 @@ use crate::baseline;
 use crate::mixes::{Begin, Call};
 use compare::translate;
 use menhotrac::raw::{self, Actions, Connection};
-use model::{Record, Sheet};
+use model::{Edition, Record, Sheet};
 use std::hint::black_box;
 
 pub trait Engine {
@@ -81,7 +81,7 @@ impl Engine for Model {
     #[inline(always)]
     fn step(&mut self, call: &Call, payload: &[u8], cache: &mut [u8]) -> (u32, u32) {
         let modelled = call.modelled(payload);
-        let (answer, record, sheet) = model::step(&self.record, &modelled, cache);
+        let (answer, record, sheet) = model::step(Edition::Mended, &self.record, &modelled, cache);
         self.record = record;
         self.sheet = sheet;
         (translate::answer(answer), self.sheet.message)

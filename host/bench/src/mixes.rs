@@ -3,7 +3,7 @@
 
 use compare::translate;
 use menhotrac::raw::{Connection, Event, Lists};
-use model::{code, Record};
+use model::{code, Edition, Record};
 
 const NOW: i64 = 1_000;
 const EXPIRY: i64 = 1_060;
@@ -126,7 +126,8 @@ impl Recorder {
             lists,
         };
         let modelled = call.modelled(&self.payload[..payload_len]);
-        (_, self.record, _) = model::step(&self.record, &modelled, &mut self.cache[..cache_len]);
+        let cache = &mut self.cache[..cache_len];
+        (_, self.record, _) = model::step(Edition::Mended, &self.record, &modelled, cache);
         self.calls.push(call);
     }
 

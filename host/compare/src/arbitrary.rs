@@ -29,10 +29,10 @@ impl Arbitrary {
     }
 
     pub fn call(&mut self, session: &mut Session) -> Checked<()> {
-        let (making, record) = self.records.draw(&mut session.random)?;
+        let (making, record) = self.records.draw(session.edition, &mut session.random)?;
         let code = self.draw_code(session, &record);
         let arguments = draw::arguments(session, &record, code);
-        let (outcome, _) = self.sides.try_call(&record, &arguments)?;
+        let (outcome, ..) = self.sides.try_call(&record, &arguments)?;
         session.coverage.note_call(&record, &arguments, &outcome);
         if let (Making::Spoilt(spoil), 7) = (making, outcome.answer) {
             session.coverage.note_spoil(spoil);

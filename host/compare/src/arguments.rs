@@ -1,12 +1,14 @@
-//! What a call gives to both sides besides the record and the cache's bytes.
+//! What a call gives to both sides besides the record and the cache's bytes, and
+//! the edition that the model answers by.
 
 use compare::suite_lists::SuiteLists;
 use menhotrac::raw;
-use model::{carries_token, Call, Event};
+use model::{carries_token, Call, Edition, Event};
 use std::fmt;
 
 #[derive(Clone, Copy)]
 pub struct Arguments<'a> {
+    pub edition: Edition,
     pub event: raw::Event,
     pub payload: &'a [u8],
     pub suites: SuiteLists,
@@ -45,6 +47,7 @@ impl fmt::Debug for Arguments<'_> {
         let begin = &self.payload[..self.payload.len().min(16)];
         formatter
             .debug_struct("Arguments")
+            .field("edition", &self.edition)
             .field("event", &self.event)
             .field("payload_len", &self.payload.len())
             .field("payload_begins", &format_args!("{begin:02x?}"))

@@ -62,10 +62,10 @@ impl Coverage {
         if !is_refusal(outcome.answer) {
             return;
         }
-        let call = arguments.call();
+        let (call, edition) = (arguments.call(), arguments.edition);
         let present = |&number: &u32| match number {
             WRONG_VERDICT => arguments.wrong_verdict(),
-            _ => fault(number, record, &call, arguments.cache_len),
+            _ => fault(number, edition, record, &call, arguments.cache_len),
         };
         let faults: Vec<u32> = FAULTS.into_iter().filter(present).collect();
         self.pairs.extend(pairs(&faults));

@@ -29,6 +29,7 @@ pub fn arguments<'a>(session: &mut Session<'a>, record: &Record, code: u32) -> A
         SuiteLists::unread(&mut session.random)
     };
     Arguments {
+        edition: session.edition,
         event,
         payload: payload(&mut session.random, session.bytes),
         suites,

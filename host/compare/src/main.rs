@@ -22,15 +22,19 @@ const PROGRAM: Program = Program {
     help: HELP,
     counted: "calls",
     usual: 6_000_000,
+    takes_edition: true,
 };
 
 const HELP: &str = "\
 Gives random calls to the model of document 01 and to the archive, and compares
-answer, record, actions, payload part and cache after each.
+answer, record, actions, payload part and cache after each. No live event may be
+ignored, and in runs from fresh the tags that are on have to be those of the
+timers and drivers that run by the actions.
 
   --calls N     how many calls, at least 1 (default 6000000)
   --seed S      where the random numbers begin (default 1)
   --threads T   how many threads share the calls, 1 to 256 (default 1)
+  --edition E   of document 01: printed, or mended by #102 (default mended)
   --help        this text
 
 Exit code 0: no difference, and every transition, refusal, pair of faults and

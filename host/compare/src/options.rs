@@ -1,16 +1,19 @@
 //! The arguments of a program.
 
 use crate::program::Program;
+use model::Edition;
 
 const MOST_THREADS: u64 = 256;
 
 /// What to run.
-#[derive(Clone, Debug, PartialEq, Eq)]
+#[derive(Clone, Copy, Debug, PartialEq, Eq)]
 pub struct Options {
     /// How many comparisons.
     pub count: u64,
     pub seed: u64,
     pub threads: u64,
+    /// The edition that the model follows.
+    pub edition: Edition,
 }
 
 #[derive(Clone, Debug, PartialEq, Eq)]
@@ -25,10 +28,15 @@ pub fn read(program: &Program, mut words: impl Iterator<Item = String>) -> Resul
         count: program.usual,
         seed: 1,
         threads: 1,
+        edition: Edition::Mended,
     };
     while let Some(word) = words.next() {
         let slot = match word.as_str() {
             "--help" | "-h" => return Ok(Request::Help),
+            "--edition" if program.takes_edition => {
+                options.edition = edition(words.next())?;
+                continue;
+            }
             "--seed" => &mut options.seed,
             "--threads" => &mut options.threads,
             other if other.strip_prefix("--") == Some(program.counted) => &mut options.count,
@@ -53,16 +61,26 @@ pub fn read(program: &Program, mut words: impl Iterator<Item = String>) -> Resul
     Ok(Request::Compare(options))
 }
 
+fn edition(word: Option<String>) -> Result<Edition, String> {
+    match word.as_deref() {
+        Some("printed") => Ok(Edition::Printed),
+        Some("mended") => Ok(Edition::Mended),
+        _ => Err("--edition needs printed or mended".into()),
+    }
+}
+
 #[cfg(test)]
 mod tests {
     use super::{read, Options, Request};
     use crate::program::Program;
+    use model::Edition;
 
     const PROGRAM: Program = Program {
         name: "tested",
         help: "",
         counted: "calls",
         usual: 7,
+        takes_edition: true,
     };
 
     fn of(line: &str) -> Result<Request, String> {
@@ -75,19 +93,31 @@ mod tests {
             count: 7,
             seed: 1,
             threads: 1,
+            edition: Edition::Mended,
         };
         assert_eq!(of(""), Ok(Request::Compare(wanted)));
     }
 
     #[test]
-    fn reads_all_three() {
+    fn reads_all_four() {
         let wanted = Options {
             count: 1_000_000_000,
             seed: 18_446_744_073_709_551_615,
             threads: 2,
+            edition: Edition::Printed,
         };
-        let line = "--threads 2 --seed 18446744073709551615 --calls 1000000000";
+        let line = "--threads 2 --edition printed --seed 18446744073709551615 --calls 1000000000";
         assert_eq!(of(line), Ok(Request::Compare(wanted)));
+    }
+
+    #[test]
+    fn takes_no_edition_where_there_is_none() {
+        let reader = Program {
+            takes_edition: false,
+            ..PROGRAM
+        };
+        let words = ["--edition", "mended"].map(String::from);
+        assert!(read(&reader, words.into_iter()).is_err());
     }
 
     #[test]
@@ -101,6 +131,8 @@ mod tests {
             "--calls 0",
             "--threads 0",
             "--threads 257",
+            "--edition",
+            "--edition 102",
             "calls 5",
             "5",
         ];

@@ -1,6 +1,6 @@
 //! A comparison as a program.
 
-use crate::options::{self, Request};
+use crate::options::{self, Options, Request};
 use crate::seen::Coverage;
 use crate::threads::{self, Reporter};
 use std::io::Write;
@@ -14,6 +14,8 @@ pub struct Program {
     pub counted: &'static str,
     /// How many without that argument.
     pub usual: u64,
+    /// Whether the model's edition is an argument; the plain reader has none.
+    pub takes_edition: bool,
 }
 
 /// Prints a line. A reader who has gone does not stop the comparison.
@@ -21,11 +23,11 @@ pub fn say(line: &str) {
     let _ = writeln!(std::io::stdout(), "{line}");
 }
 
-/// The whole of a program, whose threads each do this work with a seed of their
-/// own and a number of comparisons.
+/// The whole of a program, whose threads each do this work with a seed and a
+/// number of comparisons of their own.
 pub fn run<C: Coverage>(
     program: &'static Program,
-    work: fn(u64, u64, &Reporter<C>) -> Option<C>,
+    work: fn(&Options, &Reporter<C>) -> Option<C>,
 ) -> ExitCode {
     match options::read(program, std::env::args().skip(1)) {
         Ok(Request::Help) => {

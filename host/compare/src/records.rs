@@ -2,9 +2,13 @@
 
 use crate::difference::{Checked, Difference};
 use crate::spoilt::{self, Spoil};
-use crate::well_formed;
+use crate::well_formed::{self, Tag};
 use model::random::Random;
-use model::Record;
+use model::{Edition, Record};
+
+/// Drawn more often than the others, since it is what request #102 makes a fault in
+/// 5 and 6.
+const RA_ON: Spoil = Spoil::TagOn(Tag::Ra);
 
 /// How a record was made.
 #[derive(Clone, Copy, Debug, PartialEq, Eq)]
@@ -28,7 +32,7 @@ impl Default for Records {
 
 impl Records {
     /// A record, well formed in any state more often than not.
-    pub fn draw(&self, random: &mut Random) -> Checked<(Making, Record)> {
+    pub fn draw(&self, edition: Edition, random: &mut Random) -> Checked<(Making, Record)> {
         let (making, record) = match random.below(10) {
             0..=5 => {
                 let state = random.below(10);
@@ -36,21 +40,25 @@ impl Records {
                 (Making::WellFormed, record)
             }
             6..=8 => {
-                let spoil = random.pick(&self.spoils);
+                let any = random.pick(&self.spoils);
+                let spoil = if random.chance(20) { RA_ON } else { any };
                 (Making::Spoilt(spoil), spoil.record(random))
             }
             _ => (Making::Random, random_record(random)),
         };
-        check_making(making, &record)?;
+        check_making(edition, making, &record)?;
         Ok((making, record))
     }
 }
 
-/// The model has to call a record well formed just if it was made so.
-fn check_making(making: Making, record: &Record) -> Checked<()> {
-    let well_formed = record.well_formed();
+/// The model has to call a record well formed just if it was made so; as printed,
+/// RA may be on in 5 and 6.
+fn check_making(edition: Edition, making: Making, record: &Record) -> Checked<()> {
+    let well_formed = record.well_formed(edition);
+    let ra_may_run = edition == Edition::Printed && [5, 6].contains(&record.state);
     let agrees = match making {
         Making::WellFormed => well_formed,
+        Making::Spoilt(RA_ON) if ra_may_run => well_formed,
         Making::Spoilt(_) => !well_formed,
         Making::Random => true,
     };
@@ -86,5 +94,26 @@ fn random_record(random: &mut Random) -> Record {
         dat: any(),
         ra: any(),
         ack: any(),
+    }
+}
+
+#[cfg(test)]
+mod tests {
+    use super::{Making, Records, RA_ON};
+    use model::random::Random;
+    use model::Edition;
+
+    #[test]
+    fn ra_is_often_on_in_5_and_6() {
+        let (records, mut random) = (Records::default(), Random::new(1));
+        let mut drawn = [0; 10];
+        for _ in 0..10_000 {
+            match records.draw(Edition::Mended, &mut random) {
+                Ok((Making::Spoilt(RA_ON), record)) => drawn[record.state as usize] += 1,
+                Ok(_) => {}
+                Err(difference) => panic!("{difference}"),
+            }
+        }
+        assert!(drawn[5] > 50 && drawn[6] > 50, "{drawn:?}");
     }
 }

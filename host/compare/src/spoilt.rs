@@ -1,4 +1,4 @@
-//! Records that are well formed but for one clause of the paper's list.
+//! Records that are well formed but for one clause of the mended list.
 
 use crate::well_formed::{self, tag_on, Tag, TAGS};
 use model::random::Random;
@@ -68,7 +68,7 @@ impl Spoil {
             Spoil::NumberBelowTags => (1..=8).collect(),
             Spoil::TagAboveNumber(tag) | Spoil::TagOff(tag) => tag.on().to_vec(),
             Spoil::TagOn(tag) => {
-                let off = |state: &u32| !tag.on().contains(state) && !tag.free().contains(state);
+                let off = |state: &u32| !tag.on().contains(state);
                 (1..=9).filter(off).collect()
             }
         }

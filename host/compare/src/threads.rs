@@ -50,18 +50,22 @@ impl<C> Reporter<C> {
 pub fn compare<C: Coverage>(
     program: &Program,
     options: &Options,
-    work: fn(u64, u64, &Reporter<C>) -> Option<C>,
+    work: fn(&Options, &Reporter<C>) -> Option<C>,
 ) -> Result<String, String> {
     let (sender, receiver) = channel();
     let mut derived = Random::new(options.seed);
     let seeds = once(options.seed).chain(std::iter::repeat_with(|| derived.next_u64()));
     for (thread, seed) in (0..options.threads).zip(seeds) {
         let extra = u64::from(thread < options.count % options.threads);
-        let count = options.count / options.threads + extra;
+        let share = Options {
+            count: options.count / options.threads + extra,
+            seed,
+            ..*options
+        };
         let sender = sender.clone();
         thread::spawn(move || {
             let reporter = Reporter { seed, sender };
-            if let Some(coverage) = work(seed, count, &reporter) {
+            if let Some(coverage) = work(&share, &reporter) {
                 let _ = reporter.sender.send(Report::Finished(coverage));
             }
         });
@@ -72,6 +76,7 @@ pub fn compare<C: Coverage>(
         count,
         seed,
         threads,
+        ..
     } = options;
     let counted = program.counted;
     let head = format!("{counted} {count}, seed {seed}, threads {threads}\n{summary}");

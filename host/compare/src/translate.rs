@@ -49,6 +49,15 @@ pub fn answer(answer: Answer) -> u32 {
     }
 }
 
+/// The answer with this number.
+pub fn answer_of(number: u32) -> Answer {
+    match number {
+        HANDLED => Answer::Handled,
+        IGNORED => Answer::Ignored,
+        _ => Answer::Refused(number),
+    }
+}
+
 pub fn lists<'a>(lists: &Lists<'a>) -> raw::Lists<'a> {
     raw::Lists {
         our_verifiers: lists.our_verifiers,

@@ -5,8 +5,8 @@ use crate::difference::{Checked, Difference};
 use crate::translate;
 use compare::caches::Caches;
 use compare::outcome::{part, Outcome, RUBBISH};
-use menhotrac::raw::{self, Actions, HANDLED, WRONG_VERDICT};
-use model::{code, refusal, step, Record, Sheet};
+use menhotrac::raw::{self, Actions, HANDLED, IGNORED, WRONG_VERDICT};
+use model::{code, live, refusal, step, Record, Sheet};
 
 /// The two sides.
 pub struct Sides {
@@ -26,13 +26,13 @@ impl Sides {
         &self.caches.product[..arguments.cache_len]
     }
 
-    /// Makes the call on both sides. The archive's outcome, and the record after
-    /// it, come back if nothing differs.
+    /// Makes the call on both sides. The archive's outcome, and its record and
+    /// sheet in the model's terms, come back if nothing differs.
     pub fn try_call(
         &mut self,
         record: &Record,
         arguments: &Arguments,
-    ) -> Checked<(Outcome, Record)> {
+    ) -> Checked<(Outcome, Record, Sheet)> {
         let (after, sheet, model) = self.ask_model(record, arguments);
         let product = self.ask_product(record, arguments);
         self.write_wanted(arguments, model.answer);
@@ -42,12 +42,14 @@ impl Sides {
             "the outcomes differ"
         } else if product.answer != HANDLED && !untouched {
             "a call that was not handled changed the record or gave actions"
+        } else if product.answer == IGNORED && live(record, &arguments.call().event) {
+            "a live event was ignored"
         } else if !self.caches.agree() {
             "a cache does not hold what it should"
         } else if !self.parts_agree(arguments, &product.actions, &sheet) {
             "the payload part is not within its slice, or differs"
         } else {
-            return Ok((product, after));
+            return Ok((product, after, sheet));
         };
         Err(self.difference(what, record, arguments, &model, &product))
     }
@@ -55,14 +57,14 @@ impl Sides {
     /// The model's record after the call, its sheet and its outcome; what only
     /// the interface for C refuses comes after all of the paper's refusals.
     fn ask_model(&mut self, record: &Record, arguments: &Arguments) -> (Record, Sheet, Outcome) {
-        let call = arguments.call();
-        let interface_refuses =
-            arguments.wrong_verdict() && refusal(record, &call, arguments.cache_len).is_none();
+        let (call, edition) = (arguments.call(), arguments.edition);
+        let refused = refusal(edition, record, &call, arguments.cache_len).is_some();
+        let interface_refuses = arguments.wrong_verdict() && !refused;
         let (answer, after, sheet) = if interface_refuses {
             (WRONG_VERDICT, *record, Sheet::default())
         } else {
             let cache = &mut self.caches.model[..arguments.cache_len];
-            let (answer, after, sheet) = step(record, &call, cache);
+            let (answer, after, sheet) = step(edition, record, &call, cache);
             (translate::answer(answer), after, sheet)
         };
         let outcome = Outcome {

@@ -1,13 +1,15 @@
-//! Random runs from fresh, on which the model's five notes are asked as well.
+//! Random runs from fresh, on which the model's five notes and its ledger are asked
+//! as well.
 
 use crate::arguments::Arguments;
 use crate::difference::{Checked, Difference};
 use crate::draw;
 use crate::session::Session;
+use crate::translate;
 use crate::trial::Sides;
 use compare::outcome::{part, Outcome};
-use menhotrac::raw::{self, HANDLED, IGNORED, WRONG_VERDICT};
-use model::{code, message, Answer, Notes, Predicted, Record};
+use menhotrac::raw::{self, HANDLED, WRONG_VERDICT};
+use model::{code, message, Ledger, Notes, Predicted, Record, Running, Sheet};
 
 /// Events that can only lock. They are drawn rarely, so that runs get deep.
 const LOCKING: [u32; 6] = [
@@ -45,6 +47,7 @@ struct OwnBlock {
 pub struct Walk {
     record: Record,
     notes: Notes,
+    ledger: Ledger,
     block: OwnBlock,
     sides: Sides,
 }
@@ -54,6 +57,7 @@ impl Walk {
         Walk {
             record: Record::fresh(),
             notes: Notes::new(),
+            ledger: Ledger::default(),
             block: OwnBlock::default(),
             sides: Sides::new(bytes),
         }
@@ -66,10 +70,11 @@ impl Walk {
         }
         let code = self.draw_code(session);
         let arguments = draw::arguments(session, &self.record, code);
-        let (outcome, after) = self.sides.try_call(&self.record, &arguments)?;
+        let (outcome, after, sheet) = self.sides.try_call(&self.record, &arguments)?;
         if outcome.answer != WRONG_VERDICT {
             self.ask_notes(&arguments, &outcome)?;
         }
+        self.ask_ledger(&arguments, &outcome, &after, &sheet)?;
         self.check_block(&arguments, &outcome)?;
         let coverage = &mut session.coverage;
         coverage.note_call(&self.record, &arguments, &outcome);
@@ -83,6 +88,7 @@ impl Walk {
     fn begin_again(&mut self) {
         self.record = Record::fresh();
         self.notes = Notes::new();
+        self.ledger = Ledger::default();
         self.block = OwnBlock::default();
     }
 
@@ -104,11 +110,7 @@ impl Walk {
         let actions = &outcome.actions;
         let bytes = part(actions, arguments.payload, self.sides.cache(arguments)).unwrap_or(&[]);
         let came = Predicted {
-            answer: match outcome.answer {
-                HANDLED => Answer::Handled,
-                IGNORED => Answer::Ignored,
-                number => Answer::Refused(number),
-            },
+            answer: translate::answer_of(outcome.answer),
             state: outcome.connection.state,
             number: outcome.connection.handled,
             data: (actions.message == message::DATA).then_some((actions.bit, bytes)),
@@ -129,6 +131,32 @@ impl Walk {
             what,
             &given,
             [("notes", &predicted), ("archive", &came)],
+        ))
+    }
+
+    /// Compares the tags that are on with what runs by the ledger.
+    fn ask_ledger(
+        &mut self,
+        arguments: &Arguments,
+        outcome: &Outcome,
+        after: &Record,
+        sheet: &Sheet,
+    ) -> Checked<()> {
+        let answer = translate::answer_of(outcome.answer);
+        let obeyed = self.ledger.hear(&arguments.call().event, answer, sheet);
+        let (running, recorded) = (self.ledger.running, Running::recorded(after));
+        let what = if !obeyed {
+            "an order went to a timer or driver that is off"
+        } else if running != recorded {
+            "the tags that are on are not those of what runs by the orders"
+        } else {
+            return Ok(());
+        };
+        let given = (&self.record, arguments, sheet);
+        Err(Difference::new(
+            what,
+            &given,
+            [("ledger", &running), ("archive", &recorded)],
         ))
     }
 
@@ -169,5 +197,34 @@ impl OwnBlock {
             code::SC_ACK => self.next_bit = 1 - self.bit,
             _ => {}
         }
+    }
+}
+
+#[cfg(test)]
+mod tests {
+    use super::Walk;
+    use crate::coverage::Coverage;
+    use crate::session::Session;
+    use model::random::Random;
+    use model::Edition;
+
+    /// In the tag, and in the order.
+    #[test]
+    fn printed_edition_differs_in_ra_at_21() {
+        let bytes = vec![0; 1 << 16];
+        let mut session = Session {
+            edition: Edition::Printed,
+            random: Random::new(1),
+            bytes: &bytes,
+            coverage: Coverage::default(),
+        };
+        let mut walk = Walk::new(&bytes);
+        let difference = (0..100_000).find_map(|_| walk.call(&mut session).err());
+        let said = difference.expect("a difference").to_string();
+        let (given, lines) = said.split_once("the lines that differ:").unwrap();
+        assert!(given.contains("code: 21,"), "{said}");
+        let about_ra = |line: &str| line.trim().starts_with("model ra: ");
+        let about_ra: Vec<bool> = lines.trim().lines().map(about_ra).collect();
+        assert_eq!(about_ra, [true, true], "{said}");
     }
 }

@@ -1,4 +1,4 @@
-//! Random well-formed records, also ones that no run reaches.
+//! Random well-formed records by the mended list, also ones that no run reaches.
 
 use model::random::Random;
 use model::{Record, MOST_BYTES};
@@ -35,7 +35,7 @@ impl Tag {
         }
     }
 
-    /// The states in which the tag has to be on.
+    /// The states in which the tag is on.
     pub fn on(self) -> &'static [u32] {
         match self {
             Tag::H => &[1, 5, 6],
@@ -44,14 +44,6 @@ impl Tag {
             Tag::Dat => &[2, 3, 4, 7, 8],
             Tag::Ra => &[3, 7, 8],
             Tag::Ack => &[8],
-        }
-    }
-
-    /// The states in which the tag may be on or off.
-    pub fn free(self) -> &'static [u32] {
-        match self {
-            Tag::Ra => &[5, 6],
-            _ => &[],
         }
     }
 }
@@ -107,7 +99,7 @@ pub fn record(random: &mut Random, state: u32, most: u32) -> Record {
         record.cached_len = block_len(random);
     }
     for tag in TAGS {
-        if tag.on().contains(&state) || tag.free().contains(&state) && random.chance(50) {
+        if tag.on().contains(&state) {
             *tag.of(&mut record) = tag_on(random, record.number);
         }
     }

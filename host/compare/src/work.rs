@@ -6,23 +6,25 @@ use crate::coverage::Coverage;
 use crate::difference::Checked;
 use crate::session::Session;
 use crate::walk::Walk;
+use compare::options::Options;
 use compare::threads::Reporter;
 use model::random::Random;
 
 /// Bytes that payloads are cut from.
 const BYTES: usize = 1 << 16;
 
-pub fn work(seed: u64, calls: u64, reporter: &Reporter<Coverage>) -> Option<Coverage> {
-    let mut random = Random::new(seed);
+pub fn work(options: &Options, reporter: &Reporter<Coverage>) -> Option<Coverage> {
+    let mut random = Random::new(options.seed);
     let bytes: Vec<u8> = (0..BYTES).map(|_| random.next_u32() as u8).collect();
     let mut session = Session {
+        edition: options.edition,
         random,
         bytes: &bytes,
         coverage: Coverage::default(),
     };
     let mut walk = Walk::new(&bytes);
     let mut arbitrary = Arbitrary::new(&bytes);
-    reporter.make(calls, |number| {
+    reporter.make(options.count, |number| {
         call(number, &mut walk, &mut arbitrary, &mut session)
     })?;
     Some(session.coverage)

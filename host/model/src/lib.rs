@@ -3,7 +3,7 @@
 //! Each file follows one section of the paper, sentence by sentence, and
 //! nothing is tuned. The library is proved from definitions of its own; this
 //! crate shares no line with it, so that a definition misread there shows up as
-//! a difference here.
+//! a difference here. [`Edition`] says whether request #102's mending is followed.
 //!
 //! Records and events hold plain numbers, so that malformed ones can be given.
 //!
@@ -15,6 +15,8 @@
 
 pub mod arrival;
 mod call;
+mod edition;
+mod ledger;
 mod notes;
 mod orders;
 pub mod random;
@@ -29,11 +31,13 @@ mod turn;
 pub mod wire;
 
 pub use call::{carries_token, code, Call, Event};
+pub use edition::Edition;
+pub use ledger::{Ledger, Running};
 pub use notes::{Notes, Predicted};
 pub use orders::{driver, message, part, slice, timer, Sheet};
 pub use record::{Record, MOST_BYTES};
 pub use refusal::{fault, refusal};
 pub use step::{step, Answer};
 pub use suites::{choose, Lists, Suites, MOST_SUITES};
-pub use table::transitions;
+pub use table::{live, transitions};
 pub use token::seconds_left;

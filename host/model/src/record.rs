@@ -1,5 +1,7 @@
 //! "The record and its tags".
 
+use crate::edition::Edition;
+
 /// Longest payload and shortest cache.
 pub const MOST_BYTES: u32 = 4_096;
 
@@ -9,6 +11,7 @@ pub(crate) mod on {
     pub const PROVER: &[u32] = &[2, 3, 5];
     pub const VERIFIER: &[u32] = &[2, 4];
     pub const DAT: &[u32] = &[2, 3, 4, 7, 8];
+    pub const RA: &[u32] = &[3, 7, 8];
     pub const ACK: &[u32] = &[8];
 }
 
@@ -45,8 +48,8 @@ impl Record {
     }
 
     /// The list "Well formed", clause by clause.
-    pub fn well_formed(&self) -> bool {
-        self.state <= 9 && self.flag_and_bits_fit() && self.number_fits() && self.tags_fit()
+    pub fn well_formed(&self, edition: Edition) -> bool {
+        self.state <= 9 && self.flag_and_bits_fit() && self.number_fits() && self.tags_fit(edition)
     }
 
     fn flag_and_bits_fit(&self) -> bool {
@@ -79,18 +82,13 @@ impl Record {
         (self.state != 0 || self.number == 0) && tags.iter().all(|&tag| tag <= self.number)
     }
 
-    fn tags_fit(&self) -> bool {
+    fn tags_fit(&self, edition: Edition) -> bool {
         let just_in = |tag: u32, states: &[u32]| (tag != 0) == states.contains(&self.state);
-        let ra_fits = match self.state {
-            3 | 7 | 8 => self.ra != 0,
-            5 | 6 => true,
-            _ => self.ra == 0,
-        };
         just_in(self.h, on::H)
             && just_in(self.prover, on::PROVER)
             && just_in(self.verifier, on::VERIFIER)
             && just_in(self.dat, on::DAT)
+            && (just_in(self.ra, on::RA) || edition.lets_ra_run_on_in(self.state))
             && just_in(self.ack, on::ACK)
-            && ra_fits
     }
 }

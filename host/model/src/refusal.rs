@@ -1,6 +1,7 @@
 //! "Refusal numbers".
 
 use crate::call::{carries_bit, carries_payload, code, Call};
+use crate::edition::Edition;
 use crate::record::{Record, MOST_BYTES};
 use crate::table;
 
@@ -19,15 +20,21 @@ pub(crate) fn argument_fault(number: u32, call: &Call, cache_len: usize) -> bool
 }
 
 /// Whether the fault of refusal `number` is present.
-pub fn fault(number: u32, record: &Record, call: &Call, cache_len: usize) -> bool {
+pub fn fault(
+    number: u32,
+    edition: Edition,
+    record: &Record,
+    call: &Call,
+    cache_len: usize,
+) -> bool {
     match number {
-        7 => !record.well_formed(),
+        7 => !record.well_formed(edition),
         8 => record.number == u32::MAX && table::look_up(record, call).is_some(),
         _ => argument_fault(number, call, cache_len),
     }
 }
 
 /// "The lowest whose fault is present is given, else none."
-pub fn refusal(record: &Record, call: &Call, cache_len: usize) -> Option<u32> {
-    (1..=8).find(|&number| fault(number, record, call, cache_len))
+pub fn refusal(edition: Edition, record: &Record, call: &Call, cache_len: usize) -> Option<u32> {
+    (1..=8).find(|&number| fault(number, edition, record, call, cache_len))
 }

@@ -1,6 +1,7 @@
 //! The step: one call answered.
 
 use crate::call::Call;
+use crate::edition::Edition;
 use crate::orders::Sheet;
 use crate::record::Record;
 use crate::refusal::refusal;
@@ -17,8 +18,13 @@ pub enum Answer {
 }
 
 /// Answers one call. "Event 2 alone writes the cache."
-pub fn step(record: &Record, call: &Call, cache: &mut [u8]) -> (Answer, Record, Sheet) {
-    if let Some(number) = refusal(record, call, cache.len()) {
+pub fn step(
+    edition: Edition,
+    record: &Record,
+    call: &Call,
+    cache: &mut [u8],
+) -> (Answer, Record, Sheet) {
+    if let Some(number) = refusal(edition, record, call, cache.len()) {
         return (Answer::Refused(number), *record, Sheet::default());
     }
     let Some((row, to)) = look_up(record, call) else {
@@ -28,6 +34,7 @@ pub fn step(record: &Record, call: &Call, cache: &mut [u8]) -> (Answer, Record, 
         cache[..call.payload.len()].copy_from_slice(call.payload);
     }
     let turn = Turn {
+        edition,
         record,
         call,
         row,

@@ -115,14 +115,17 @@ fn tag_of_sender(record: &Record, event: &Event) -> u32 {
     }
 }
 
+/// "Its tag isn't 0 and equals the record's tag of that driver or timer."
+pub fn live(record: &Record, event: &Event) -> bool {
+    carries_tag(event.code) && event.tag != 0 && event.tag == tag_of_sender(record, event)
+}
+
 /// Whether an event with a tag is live, and one with a bit has the right one.
 fn fits(record: &Record, event: &Event) -> bool {
     match event.code {
         code::SC_DATA => event.bit == record.expected_bit,
         code::SC_ACK => record.ack_flag == 1 && event.bit == record.next_send_bit,
-        tagged if carries_tag(tagged) => {
-            event.tag != 0 && event.tag == tag_of_sender(record, event)
-        }
+        tagged if carries_tag(tagged) => live(record, event),
         _ => true,
     }
 }

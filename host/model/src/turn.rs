@@ -1,6 +1,7 @@
 //! A handled event, and "Timers": what it does to each of them.
 
 use crate::call::Call;
+use crate::edition::Edition;
 use crate::record::Record;
 use crate::table::Row;
 use crate::timers::Timer;
@@ -8,6 +9,7 @@ use crate::timers::Timer;
 /// A handled event: what it met, the row of the table that took it, and the
 /// state it leads to.
 pub(crate) struct Turn<'a> {
+    pub edition: Edition,
     pub record: &'a Record,
     pub call: &'a Call<'a>,
     pub row: Row,
@@ -28,15 +30,12 @@ impl Turn<'_> {
     }
 
     /// "Each starts on coming into its set of states ... They are cancelled on
-    /// leaving the set."
+    /// leaving the set ... one with tag 0, gets no cancel."
     pub(crate) fn change(&self, timer: Timer) -> Change {
-        if timer == Timer::Ra {
-            return self.ra_change();
-        }
-        match (timer.runs_in(self.record.state), timer.runs_in(self.to)) {
+        match (timer.tag(self.record) != 0, timer.runs_in(self.to)) {
             (false, true) => Change::Start,
             (true, true) if self.restarts(timer) => Change::Start,
-            (true, false) => Change::End,
+            (true, false) if !self.lets_run_on(timer) => Change::End,
             _ => Change::Keep,
         }
     }
@@ -51,16 +50,10 @@ impl Turn<'_> {
         }
     }
 
-    /// "RA starts at event 4, is cancelled when a verifier starts, when 21 is
-    /// handled in 7 or 8, and by locking."
-    fn ra_change(&self) -> Change {
-        let token_ended = self.row == Row::DatTimeout && [7, 8].contains(&self.record.state);
-        if self.row == Row::VerifierOk {
-            Change::Start
-        } else if self.row.starts_verifier() || token_ended || self.locks() {
-            Change::End
-        } else {
-            Change::Keep
-        }
+    /// As printed, 21 cancels RA "in 7 or 8" alone, so that it runs on in 5 and 6.
+    fn lets_run_on(&self, timer: Timer) -> bool {
+        timer == Timer::Ra
+            && self.edition.lets_ra_run_on_in(self.to)
+            && ![7, 8].contains(&self.record.state)
     }
 }

@@ -1,7 +1,7 @@
 //! "The boot run and its neighbours", run on the model.
 
 use model::{
-    code, message, part, seconds_left, step, timer, transitions, Answer, Call, Event, Lists,
+    code, message, part, seconds_left, timer, transitions, Answer, Call, Edition, Event, Lists,
     Record, Sheet, MOST_SUITES,
 };
 
@@ -42,6 +42,14 @@ fn call(event: Event, payload: &[u8]) -> Call<'_> {
         payload,
         lists: LISTS,
     }
+}
+
+/// "No case of the boot run changes": the step of both editions.
+fn step(record: &Record, call: &Call, cache: &mut [u8]) -> (Answer, Record, Sheet) {
+    let printed = model::step(Edition::Printed, record, call, &mut cache.to_vec());
+    let mended = model::step(Edition::Mended, record, call, cache);
+    assert_eq!(mended, printed);
+    mended
 }
 
 /// Gives the events to a fresh record, each with a payload of five bytes.

@@ -131,6 +131,8 @@ fn malformed_record() {
             dat: waiting.handled + 1,
             ..waiting
         },
+        raw::Connection { ra: 5, ..record(5) },
+        raw::Connection { ra: 5, ..record(6) },
     ];
     for record in malformed {
         let connection = Connection::from_raw(record);

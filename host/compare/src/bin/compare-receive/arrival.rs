@@ -1,4 +1,4 @@
-//! What both sides are given.
+//! What both sides are given, and the edition that the model answers by.
 
 use crate::trial::Read;
 use compare::suite_lists::SuiteLists;
@@ -7,10 +7,11 @@ use menhotrac::raw::{OurLists, Token};
 use model::arrival::{self, Given};
 use model::random::Random;
 use model::wire::Message;
-use model::{carries_token, Call, Record};
+use model::{carries_token, fault, Call, Edition, Record};
 use std::fmt;
 
 pub struct Arrival<'a> {
+    pub edition: Edition,
     pub record: Record,
     pub bytes: &'a [u8],
     pub token: Token,
@@ -22,13 +23,20 @@ pub struct Arrival<'a> {
 impl<'a> Arrival<'a> {
     /// Bytes with a record, the rest drawn: our lists with care only where a HELLO
     /// reads them.
-    pub fn draw(random: &mut Random, record: Record, bytes: &'a [u8], read: &Read) -> Arrival<'a> {
+    pub fn draw(
+        edition: Edition,
+        random: &mut Random,
+        record: Record,
+        bytes: &'a [u8],
+        read: &Read,
+    ) -> Arrival<'a> {
         let (expiry, now) = tokens::mostly_good_times(random);
         let suites = match read {
             Ok(Message::Hello { .. }) => SuiteLists::draw(random),
             _ => SuiteLists::unread(random),
         };
         Arrival {
+            edition,
             record,
             bytes,
             token: Token {
@@ -63,6 +71,11 @@ impl<'a> Arrival<'a> {
         arrival::call_of(message, &given)
     }
 
+    /// Whether the call has the fault of this refusal by the step.
+    pub fn has_fault(&self, number: u32, call: &Call) -> bool {
+        fault(number, self.edition, &self.record, call, self.cache_len)
+    }
+
     /// The fault that only the interface for C refuses.
     pub fn wrong_verdict(&self, call: &Call) -> bool {
         carries_token(call.event.code) && self.token.verdict > 1
@@ -76,6 +89,7 @@ impl fmt::Debug for Arrival<'_> {
         let begin = &self.bytes[..self.bytes.len().min(200)];
         formatter
             .debug_struct("Arrival")
+            .field("edition", &self.edition)
             .field("record", &self.record)
             .field("len", &self.bytes.len())
             .field("bytes", &format_args!("{begin:02x?}"))

@@ -6,7 +6,7 @@ use compare::outcome::Outcome;
 use compare::seen::{pairs, seen, size, summed, tally};
 use compare::spoilt::{self, Spoil};
 use menhotrac::raw::{HANDLED, IGNORED, WRONG_VERDICT};
-use model::{fault, transitions, Call};
+use model::{transitions, Call};
 use std::collections::{BTreeMap, BTreeSet};
 use std::ops::RangeInclusive;
 
@@ -87,7 +87,7 @@ impl Coverage {
     fn note_faults(&mut self, arrival: &Arrival, call: &Call) {
         let present = |&number: &u32| match number {
             WRONG_VERDICT => arrival.wrong_verdict(call),
-            _ => fault(number, &arrival.record, call, arrival.cache_len),
+            _ => arrival.has_fault(number, call),
         };
         let faults: Vec<u32> = FAULTS.into_iter().filter(present).collect();
         self.pairs.extend(pairs(&faults));
@@ -97,7 +97,7 @@ impl Coverage {
     /// refused.
     fn note_hidden(&mut self, arrival: &Arrival, refusal: u32) {
         let call = Call::default();
-        let present = |number: &u32| fault(*number, &arrival.record, &call, arrival.cache_len);
+        let present = |number: &u32| arrival.has_fault(*number, &call);
         let hidden = [5, 7].into_iter().filter(present);
         self.pairs.extend(hidden.map(|number| (refusal, number)));
     }

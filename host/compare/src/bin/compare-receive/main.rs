@@ -17,6 +17,7 @@ const PROGRAM: Program = Program {
     help: HELP,
     counted: "messages",
     usual: 2_000_000,
+    takes_edition: true,
 };
 
 const HELP: &str = "\
@@ -28,6 +29,7 @@ actions, place, payload part and cache are compared.
   --messages N  how many messages, at least 1 (default 2000000)
   --seed S      where the random numbers begin (default 1)
   --threads T   how many threads share the messages, 1 to 256 (default 1)
+  --edition E   of document 01: printed, or mended by #102 (default mended)
   --help        this text
 
 Exit code 0: no difference, and every answer, transition by a message, pair of

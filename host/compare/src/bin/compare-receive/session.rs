@@ -10,9 +10,10 @@ use compare::wire::inputs::{Inputs, Kind};
 use model::arrival::{call_of, Given};
 use model::random::Random;
 use model::wire::{self, Message};
-use model::{transitions, Record};
+use model::{transitions, Edition, Record};
 
 pub struct Session<'a> {
+    edition: Edition,
     random: Random,
     inputs: Inputs<'a>,
     records: Records,
@@ -23,13 +24,14 @@ pub struct Session<'a> {
 }
 
 impl<'a> Session<'a> {
-    pub fn new(mut random: Random, pool: &'a [u8]) -> Session<'a> {
+    pub fn new(edition: Edition, mut random: Random, pool: &'a [u8]) -> Session<'a> {
         let mut handling = vec![Vec::new(); 24];
         for (state, event, _) in transitions() {
             handling[event as usize].push(state);
         }
         let inputs = Inputs::new(Random::new(random.next_u64()), pool);
         Session {
+            edition,
             random,
             inputs,
             records: Records::default(),
@@ -49,9 +51,9 @@ impl<'a> Session<'a> {
                 let record = handling_record(random, &self.handling, message);
                 (Making::WellFormed, record)
             }
-            _ => self.records.draw(random)?,
+            _ => self.records.draw(self.edition, random)?,
         };
-        let arrival = Arrival::draw(random, record, bytes, &read);
+        let arrival = Arrival::draw(self.edition, random, record, bytes, &read);
         let receipt = self.sides.receive(&arrival, &read)?;
         self.coverage.note(&arrival, &read, &receipt.outcome);
         if let (Making::Spoilt(spoil), 7) = (making, receipt.outcome.answer) {

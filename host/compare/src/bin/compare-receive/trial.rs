@@ -87,13 +87,13 @@ impl Sides {
     /// What only the interface for C refuses comes after all of the paper's
     /// refusals.
     fn step_model(&mut self, arrival: &Arrival, call: &Call) -> (u32, Record, Sheet) {
-        let record = &arrival.record;
-        let refused = refusal(record, call, arrival.cache_len).is_some();
+        let (record, edition) = (&arrival.record, arrival.edition);
+        let refused = refusal(edition, record, call, arrival.cache_len).is_some();
         if arrival.wrong_verdict(call) && !refused {
             return (WRONG_VERDICT, *record, Sheet::default());
         }
         let cache = &mut self.caches.model[..arrival.cache_len];
-        let (answer, after, sheet) = step(record, call, cache);
+        let (answer, after, sheet) = step(edition, record, call, cache);
         (translate::answer(answer), after, sheet)
     }
 

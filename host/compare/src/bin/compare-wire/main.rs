@@ -16,6 +16,7 @@ const PROGRAM: Program = Program {
     help: HELP,
     counted: "inputs",
     usual: 5_000_000,
+    takes_edition: false,
 };
 
 const HELP: &str = "\

@@ -2,6 +2,7 @@
 
 use crate::coverage::Coverage;
 use crate::session::Session;
+use compare::options::Options;
 use compare::threads::Reporter;
 use compare::wire::inputs::{Inputs, Kind};
 use model::random::Random;
@@ -9,11 +10,11 @@ use model::random::Random;
 /// Bytes that tokens and payloads are taken from.
 const POOL: usize = 1 << 16;
 
-pub fn work(seed: u64, count: u64, reporter: &Reporter<Coverage>) -> Option<Coverage> {
-    let mut random = Random::new(seed);
+pub fn work(options: &Options, reporter: &Reporter<Coverage>) -> Option<Coverage> {
+    let mut random = Random::new(options.seed);
     let pool: Vec<u8> = (0..POOL).map(|_| random.next_u32() as u8).collect();
     let mut session = Session::new(Inputs::new(random, &pool));
-    reporter.make(count, |number| session.give(kind(number)))?;
+    reporter.make(options.count, |number| session.give(kind(number)))?;
     Some(session.coverage)
 }
 

@@ -1,0 +1,20 @@
+//! Document 01 as printed, and with request #102.
+
+/// The rules for RA, the re-attestation timer; nothing else differs.
+#[derive(Clone, Copy, Debug, PartialEq, Eq)]
+pub enum Edition {
+    /// "RA starts at event 4, is cancelled when a verifier starts, when 21 is
+    /// handled in 7 or 8, and by locking"; it is "on in 3, 7, 8, on or off in 5
+    /// and 6, off elsewhere".
+    Printed,
+    /// "21 cancels RA in every state where it runs, and the well-formed list has
+    /// RA off in 5 and 6."
+    Mended,
+}
+
+impl Edition {
+    /// Whether RA may be on in this state, which is not one of its set.
+    pub(crate) fn lets_ra_run_on_in(self, state: u32) -> bool {
+        self == Edition::Printed && [5, 6].contains(&state)
+    }
+}

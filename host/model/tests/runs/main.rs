@@ -1,0 +1,5 @@
+//! Random runs from fresh.
+
+mod agreement;
+mod calls;
+mod editions;
