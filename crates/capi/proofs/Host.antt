@@ -1,9 +1,8 @@
--- Demand 3 at the interface for C.
+-- Demand 3 and the audit at the interface for C.
 -- Assumes nothing.
 use mathlib.Core.Path.{_≡_, refl, ap, _∙_}
 use mathlib.Core.Bool.{Bool, true, false, cond}
 use mathlib.Core.List.{List, [], _∷_}
-use mathlib.Core.Option.{none}
 use Prim.Native.Nat.{ℕ}
 use lib.Dec.{eqb}
 use lib.ListN.{length}
@@ -11,8 +10,9 @@ use Rattle.connection.specs.Also.{decidedAlso, resultAlso}
 use Rattle.flat.specs.Flat.{recordIn}
 use Rattle.event.specs.Call.{Call, inputOf}
 use Rattle.protocol.specs.Agreement.{AllAgree}
+use Rattle.protocol.specs.Along.{Along}
+use Rattle.protocol.specs.Audit.{AllAudited}
 use Rattle.protocol.specs.Block.{partOf}
-use Rattle.protocol.specs.History.{first}
 use Rattle.protocol.specs.Run.{resultsOf}
 use Rattle.protocol.specs.Step.{refusalOf, cacheAfter, decided, resultWith, resultOf, unchanged}
 use Rattle.protocol.specs.declared.Answer.the-variants.{Refused}
@@ -20,11 +20,12 @@ use Rattle.protocol.specs.declared.Outcome.{Outcome}
 use Rattle.record.specs.Limits.{limits}
 use Rattle.record.specs.WellFormed.{fresh}
 use Rattle.record.specs.declared.Connection.{Connection}
-use Rattle.capi.specs.Host.{FlatCall, callIn, callsIn, AllRight, Got, Holds, AllPromised, AllShow}
+use Rattle.capi.specs.Host.{FlatCall, callIn, callsIn, AllRight, Got, Holds, Lent, AllPromised, AllShow}
 use Rattle.capi.specs.Returned.{Returned, returned, returnedOf}
 use Rattle.capi.specs.Verdict.{refusedVerdict, wrongVerdict}
 use Rattle.connection.proofs.Also.{none-also}
 use Rattle.protocol.proofs.Agreement.{demand3}
+use Rattle.protocol.proofs.Audit.{audit}
 use Rattle.protocol.proofs.Stepped.{still}
 
 -- A call with a right verdict returns the step's result.
@@ -68,19 +69,20 @@ holds-same got a b e h = record {
 }
 
 -- What a host got, from numbers and a cache that are those of a record and a cache.
-shown : (connection : Connection) (held numbers cache : List ℕ) (calls : List FlatCall) (got : List Got) → recordIn numbers ≡ connection → cache ≡ held
-    → AllRight calls → AllPromised numbers cache calls got → AllShow got (resultsOf limits connection held (callsIn calls))
-unfolding AllPromised AllShow resultsOf
-shown connection held numbers cache [] [] r k a p = tt
-shown connection held numbers cache [] (g ∷ more) r k a p = absurd p
-shown connection held numbers cache (call ∷ calls) [] r k a p = absurd p
-shown connection held numbers cache (call ∷ calls) (g ∷ more) r k a p =
+shown : (connection : Connection) (held : List ℕ) (lent : Lent) (calls : List FlatCall) (got : List Got) → recordIn (lent .numbers) ≡ connection → lent .cache ≡ held
+    → AllRight calls → AllPromised lent calls got → AllShow got (resultsOf limits connection held (callsIn calls))
+unfolding Along resultsOf
+shown connection held lent [] [] r k a p = tt
+shown connection held lent [] (g ∷ more) r k a p = absurd p
+shown connection held lent (call ∷ calls) [] r k a p = absurd p
+shown connection held lent (call ∷ calls) (g ∷ more) r k a p =
     let result = resultOf limits connection (callIn call) held in
-    let same = right numbers cache call (a .0) ∙ (λ i. returnedOf (resultOf limits (r i) (callIn call) (k i))) in
+    let same = right (lent .numbers) (lent .cache) call (a .0) ∙ (λ i. returnedOf (resultOf limits (r i) (callIn call) (k i))) in
     let h = holds-same g _ (returnedOf result) same (p .0) in
-    (h, shown (result .outcome .connection) (result .cache) (g .numbers) (g .cache) calls more (h .record-left) (h .cache-left) (a .1) (p .1))
+    (h, shown (result .outcome .connection) (result .cache) (record { numbers = g .numbers; cache = g .cache }) calls more (h .record-left) (h .cache-left) (a .1) (p .1))
 
--- From a fresh record, what a host in C got over a list of calls are the numbers of results that agree with the history.
-pub c-host-agrees : (numbers cache : List ℕ) (calls : List FlatCall) (got : List Got) → recordIn numbers ≡ fresh → AllRight calls → AllPromised numbers cache calls got
-    → AllShow got (resultsOf limits fresh cache (callsIn calls)) × AllAgree limits (length cache) first none (callsIn calls) (resultsOf limits fresh cache (callsIn calls))
-c-host-agrees numbers cache calls got r a p = (shown fresh cache numbers cache calls got r refl a p, demand3 limits cache (callsIn calls))
+-- From a fresh record, what a host in C got over a list of calls are the numbers of results that agree with the history and that the audit finds in order.
+pub c-host-agrees : (lent : Lent) (calls : List FlatCall) (got : List Got) → recordIn (lent .numbers) ≡ fresh → AllRight calls → AllPromised lent calls got
+    → let results = resultsOf limits fresh (lent .cache) (callsIn calls) in
+    AllShow got results × (AllAgree limits (length (lent .cache)) (callsIn calls) results × AllAudited (callsIn calls) results)
+c-host-agrees lent calls got r a p = (shown fresh (lent .cache) lent calls got r refl a p, (demand3 limits (lent .cache) (callsIn calls), audit limits (lent .cache) (callsIn calls)))

@@ -1,10 +1,11 @@
--- Demand 3 at the interface for C: what a host in C gets over a list of calls are the numbers of the results that demand 3 speaks of.
+-- Demand 3 and the audit at the interface for C: what a host in C gets over a list of calls are the numbers of the results that they speak of.
 use Prim.Native.Nat.{ℕ}
 use mathlib.Core.Path.{_≡_}
 use mathlib.Core.Bool.{false}
 use mathlib.Core.List.{List, [], _∷_}
 use Rattle.flat.specs.Flat.{recordIn}
 use Rattle.event.specs.Call.{Call, callOf}
+use Rattle.protocol.specs.Along.{Along}
 use Rattle.protocol.specs.Step.{Result}
 use Rattle.capi.specs.Returned.{Returned, returned, returnedOf}
 use Rattle.capi.specs.Verdict.{wrongVerdict, eventOf}
@@ -51,18 +52,20 @@ pub record Holds (got : Got) (gives : Returned) : Type 0 where
   pub cache-left : got .cache ≡ gives .cache
   pub part-taken : got .part ≡ gives .part
 
--- What the contract of `menhotrac_step` promises over a list of calls, each given the numbers and the cache that the last one left.
-unfoldable pub AllPromised : (numbers cache : List ℕ) → List FlatCall → List Got → Type 0
-AllPromised numbers cache [] [] = Unit {0}
-AllPromised numbers cache [] (got ∷ more) = ⊥
-AllPromised numbers cache (call ∷ calls) [] = ⊥
-AllPromised numbers cache (call ∷ calls) (got ∷ more) =
-    Holds got (returned numbers (call .event) (call .payload) cache (call .ourVerifiers) (call .peerProvers) (call .peerVerifiers) (call .ourProvers))
-    × AllPromised (got .numbers) (got .cache) calls more
+-- The numbers of a record, and a cache, that a host lends to a call.
+pub record Lent : Type 0 where
+  pub numbers : List ℕ
+  pub cache : List ℕ
+
+-- What the contract of `menhotrac_step` promises for a call.
+abbrev pub Promised : Lent → FlatCall → Got → Type 0
+Promised lent call got =
+    Holds got (returned (lent .numbers) (call .event) (call .payload) (lent .cache) (call .ourVerifiers) (call .peerProvers) (call .peerVerifiers) (call .ourProvers))
+
+-- The same over a list of calls, each given the numbers and the cache that the last one left.
+abbrev pub AllPromised : Lent → List FlatCall → List Got → Type 0
+AllPromised = Along Promised (λ lent call got. record { numbers = got .numbers; cache = got .cache })
 
 -- What it got are the numbers of these results, one by one.
-unfoldable pub AllShow : List Got → List Result → Type 0
-AllShow [] [] = Unit {0}
-AllShow [] (result ∷ results) = ⊥
-AllShow (got ∷ more) [] = ⊥
-AllShow (got ∷ more) (result ∷ results) = Holds got (returnedOf result) × AllShow more results
+abbrev pub AllShow : List Got → List Result → Type 0
+AllShow = Along {S = Unit {0}} (λ nothing got result. Holds got (returnedOf result)) (λ nothing got result. nothing) tt

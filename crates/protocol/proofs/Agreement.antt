@@ -3,7 +3,7 @@
 use mathlib.Core.Path.{_≡_, refl, sym, subst, subst⁻¹, ap, _∙_}
 use mathlib.Core.Bool.{Bool, true, false, not}
 use mathlib.Core.List.{List, [], _∷_, _++_}
-use mathlib.Core.Option.{Option, none}
+use mathlib.Core.Option.{Option}
 use Prim.Native.Nat.{ℕ, suc}
 use lib.Dec.{T, eqb}
 use lib.ListN.{length}
@@ -12,17 +12,17 @@ use Rattle.event.specs.Call.{Call, inputOf}
 use Rattle.record.specs.Limits.{Limits}
 use Rattle.record.specs.WellFormed.{fresh, wellFormed}
 use Rattle.table.specs.Table.{ignored}
-use Rattle.protocol.specs.Agreement.{Block, isHandled, acceptedAfter, AllAgree, Demand3}
+use Rattle.protocol.specs.Agreement.{Block, isHandled, AgreesWith, noPast, pastAfter, Demand3}
 use Rattle.protocol.specs.Block.{partOf}
 use Rattle.protocol.specs.Condition.{nextState}
 use Rattle.protocol.specs.Faults.{argumentFaults, firstFault}
-use Rattle.protocol.specs.History.{History, first, hear, counts, notesAfter, counted, answerBy, answerTo, keep, historyAfter, stateOf}
-use Rattle.protocol.specs.Run.{resultsOf}
+use Rattle.protocol.specs.History.{History, hear, counts, notesAfter, counted, answerBy, answerTo, keep, historyAfter, stateOf}
 use Rattle.protocol.specs.Step.{unchanged, handledTo, resultOf}
 use Rattle.protocol.specs.declared.Answer.{Answer}
 use Rattle.protocol.specs.declared.Answer.the-variants.{Handled, Ignored, Refused}
 use Rattle.record.specs.declared.Connection.{Connection}
 use Rattle.event.specs.declared.Input.{Input}
+use Rattle.protocol.proofs.Along.{along}
 use Rattle.protocol.proofs.Carried.{Waits, Carried, unmoved, leads-there, heeded, moves}
 use Rattle.protocol.proofs.Decided as decided
 use Rattle.protocol.proofs.Decided.{none-of}
@@ -107,15 +107,11 @@ one-call limits size history accepted connection cache R W call =
     subst (λ (s : ℕ). Carried limits s history accepted call (answerTo limits s history call) (historyAfter limits s history call) (resultOf limits connection call cache)) (R .size-is)
     (carried limits history accepted connection cache (subst⁻¹ (λ (s : ℕ). Follows limits s history connection cache) (R .size-is) R) W call)
 
-every-call : (limits : Limits) (size : ℕ) (history : History) (accepted : Option Block) (connection : Connection) (cache : List ℕ) (calls : List Call)
-    → Follows limits size history connection cache → Waits history accepted → AllAgree limits size history accepted calls (resultsOf limits connection cache calls)
-unfolding AllAgree resultsOf
-every-call limits size history accepted connection cache [] R W = tt
-every-call limits size history accepted connection cache (call ∷ calls) R W =
-    let c = one-call limits size history accepted connection cache R W call in
-    let result = resultOf limits connection call cache in
-    (c .agrees, every-call limits size (historyAfter limits size history call) (acceptedAfter accepted call result) (result .outcome .connection) (result .cache) calls (c .follows) (c .waits))
-
 -- The history theorem.
 pub demand3 : (limits : Limits) → Demand3 limits
-demand3 limits cache calls = every-call limits (length cache) first none fresh cache calls (follows-first limits cache) (λ t. absurd t)
+demand3 limits cache calls =
+    let size = length cache in
+    along limits (AgreesWith limits size) (pastAfter limits size)
+    (λ past connection cache. Follows limits size (past .history) connection cache × Waits (past .history) (past .accepted))
+    (λ past connection cache call i. let c = one-call limits size (past .history) (past .accepted) connection cache (i .0) (i .1) call in (c .agrees, (c .follows, c .waits)))
+    noPast fresh cache (follows-first limits cache, λ t. absurd t) calls

@@ -1,4 +1,5 @@
 pub mod Agreement
+mod Along
 pub mod Always
 pub mod Audit
 mod BlockEvents
@@ -14,3 +15,4 @@ pub mod Live
 pub mod Moved
 mod Standings
 pub mod Stepped
+mod Tasks

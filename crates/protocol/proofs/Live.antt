@@ -1,7 +1,7 @@
 -- Nothing live is ignored: where a timer runs, the table takes whatever comes from it and from its driver.
 -- Assumes nothing.
 use mathlib.Core.Path.{_≡_, refl, sym, subst, subst⁻¹, ap, _∙_}
-use mathlib.Core.Bool.{Bool, true, false, not, _&&_, _||_, not-and-self}
+use mathlib.Core.Bool.{Bool, true, false, not, _||_, not-and-self}
 use mathlib.Core.List.{List}
 use Prim.Native.Nat.{ℕ}
 use lib.Dec.{T, eqb}
@@ -16,10 +16,10 @@ use Rattle.record.specs.declared.Connection.{Connection}
 use Rattle.table.specs.Table as table
 use Rattle.protocol.specs.Condition.{Condition, live, goodHello, goodToken, expectedBit, nextSendBit, nothing, conditionOf, isLive, meets, holds, nextBy, nextState}
 use Rattle.protocol.specs.Live.{carriesTag, isLiveCall, NothingLiveIgnored}
-use Rattle.protocol.specs.Step.{Result, resultOf}
+use Rattle.protocol.specs.Step.{Result}
 use Rattle.protocol.specs.declared.Answer.{Answer}
 use Rattle.protocol.specs.declared.Answer.the-variants.{Handled, Ignored, Refused}
-use Rattle.protocol.proofs.Stepped.{Stepped, refused, ignored, handled, stepped, next, still, movedTo, Unrefused, unrefused}
+use Rattle.protocol.proofs.Stepped.{Stepped, refused, ignored, handled, stepped, next, Unrefused, unrefused}
 use Rattle.record.proofs.WellFormed.{parts, off}
 use Rattle.table.proofs.Finite.{and-left, and-right, is-true, is-false, implied, below, below-at, cells, cells-at}
 
@@ -44,10 +44,6 @@ all-take = tt
 live-on : (tag own : ℕ) → T (isLive tag own) → own ≡ 0 → ⊥
 live-on tag own t e = absurd (rw (e, not-and-self) at t)
 
-opposed : (b : Bool) → T b → T (not b) → ⊥
-opposed true t u = u
-opposed false t u = t
-
 -- A call that is not refused and whose event is live.
 module _ (limits : Limits) (connection : Connection) (call : Call) (cache : List ℕ) (U : Unrefused limits connection call cache) where
   abbrev k : ℕ
@@ -64,20 +60,20 @@ module _ (limits : Limits) (connection : Connection) (call : Call) (cache : List
   taken-by : (condition : Condition) → T (carriesTag k) → T (meets connection input condition) → T (takes (connection .state) k (connection .«awaiting_ack») condition)
       → T (not (eqb (nextBy (connection .state) (connection .«awaiting_ack») k true) table.ignored))
   taken-by (live x) c m t = implied (runsIn x (connection .state)) _ t (runs-here x (runsIn x (connection .state)) refl m)
-  taken-by goodHello c m t = absurd (opposed (carriesTag k) c t)
-  taken-by goodToken c m t = absurd (opposed (carriesTag k) c t)
-  taken-by expectedBit c m t = absurd (opposed (carriesTag k) c t)
-  taken-by nextSendBit c m t = absurd (opposed (carriesTag k) c t)
-  taken-by nothing c m t = absurd (opposed (carriesTag k) c t)
+  taken-by goodHello c m t = absurd (subst T (is-false (carriesTag k) t) c)
+  taken-by goodToken c m t = absurd (subst T (is-false (carriesTag k) t) c)
+  taken-by expectedBit c m t = absurd (subst T (is-false (carriesTag k) t) c)
+  taken-by nextSendBit c m t = absurd (subst T (is-false (carriesTag k) t) c)
+  taken-by nothing c m t = absurd (subst T (is-false (carriesTag k) t) c)
 
-  pub live-taken : T (isLiveCall limits connection call (length cache)) → eqb (next limits connection call cache) table.ignored ≡ false
+  live-taken : T (isLiveCall limits connection call (length cache)) → eqb (next limits connection call cache) table.ignored ≡ false
   unfolding nextState holds
   live-taken t =
       let c = and-left (carriesTag k) _ t in
       let h = and-right (carriesTag k) _ t in
       let p = parts limits connection (U .well) in
       let q = below-at 3 (λ name. takes (connection .state) k (connection .«awaiting_ack») (conditionOf k name))
-          (cells-at cellTakes all-take (connection .state) k (connection .«awaiting_ack») true (p .state) (U .arguments .code) (p .flag)) (input .timer) (U .arguments .timer) in
+      (cells-at cellTakes all-take (connection .state) k (connection .«awaiting_ack») true (p .state) (U .arguments .code) (p .flag)) (input .timer) (U .arguments .timer) in
       is-false _ (subst⁻¹ (λ (b : Bool). T (not (eqb (nextBy (connection .state) (connection .«awaiting_ack») k b) table.ignored))) (is-true (meets connection input (conditionOf k (input .timer))) h)
       (taken-by (conditionOf k (input .timer)) c h q))
 
@@ -87,7 +83,7 @@ isIgnored Handled = false
 isIgnored Ignored = true
 isIgnored (Refused number) = false
 
-pub not-ignored : (answer : Answer) → isIgnored answer ≡ false → answer ≡ Ignored → ⊥
+not-ignored : (answer : Answer) → isIgnored answer ≡ false → answer ≡ Ignored → ⊥
 not-ignored answer e a = absurd (subst T (sym (ap isIgnored a) ∙ e) tt)
 
 pub nothing-live-ignored : (limits : Limits) → NothingLiveIgnored limits

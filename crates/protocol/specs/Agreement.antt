@@ -10,6 +10,7 @@ use Rattle.event.specs.Call.{Call}
 use Rattle.record.specs.Limits.{Limits}
 use Rattle.record.specs.WellFormed.{fresh}
 use Rattle.table.specs.Sets.{isIn}
+use Rattle.protocol.specs.Along.{Along}
 use Rattle.protocol.specs.History.{History, first, answerTo, historyAfter, stateOf}
 use Rattle.protocol.specs.Notes.{attested}
 use Rattle.protocol.specs.Orders as order
@@ -82,18 +83,33 @@ pub record Agrees (answer : Answer) (before after : History) (accepted : Option 
   -- Every DATA carries the bytes and the bit of the block last accepted.
   pub last-accepted : (sent : Block) → dataOf result ≡ some sent → accepted ≡ some sent
 
--- Every call of a list agrees, with its result in the list of results; the history and the block last accepted are carried along.
-unfoldable pub AllAgree : Limits → (cacheLength : ℕ) → History → (accepted : Option Block) → List Call → List Result → Type 0
-AllAgree limits cacheLength history accepted [] [] = Unit {0}
-AllAgree limits cacheLength history accepted [] (result ∷ results) = ⊥
-AllAgree limits cacheLength history accepted (call ∷ calls) [] = ⊥
-AllAgree limits cacheLength history accepted (call ∷ calls) (result ∷ results) =
-    let answer = answerTo limits cacheLength history call in
-    let after = historyAfter limits cacheLength history call in
-    let latest = acceptedAfter accepted call result in
-    Agrees answer history after latest call result × AllAgree limits cacheLength after latest calls results
+-- What calls have led to: the history, and the block last accepted.
+pub record Past : Type 0 where
+  pub history : History
+  pub accepted : Option Block
+
+-- Before the first call.
+abbrev pub noPast : Past
+noPast = record { history = first; accepted = none }
+
+-- After a call, given what led to it.
+abbrev pub pastAfter : Limits → (cacheLength : ℕ) → Past → Call → Result → Past
+pastAfter limits cacheLength past call result = record {
+  history = historyAfter limits cacheLength (past .history) call;
+  accepted = acceptedAfter (past .accepted) call result;
+}
+
+-- A call and its result agree with what led to the call.
+abbrev pub AgreesWith : Limits → (cacheLength : ℕ) → Past → Call → Result → Type 0
+AgreesWith limits cacheLength past call result =
+    let after = pastAfter limits cacheLength past call result in
+    Agrees (answerTo limits cacheLength (past .history) call) (past .history) (after .history) (after .accepted) call result
+
+-- So does every call of a list.
+abbrev pub AllAgree : Limits → (cacheLength : ℕ) → List Call → List Result → Type 0
+AllAgree limits cacheLength = Along (AgreesWith limits cacheLength) (pastAfter limits cacheLength) noPast
 
 -- Demand 3: for any cache and any list of calls from a fresh record, ignored and refused ones included, each call given the record and the
 -- cache that the last one left.
 abbrev pub Demand3 : Limits → Type 0
-Demand3 limits = (cache : List ℕ) (calls : List Call) → AllAgree limits (length cache) first none calls (resultsOf limits fresh cache calls)
+Demand3 limits = (cache : List ℕ) (calls : List Call) → AllAgree limits (length cache) calls (resultsOf limits fresh cache calls)

@@ -115,6 +115,10 @@ pub record Audited (ledger : Ledger) (call : Call) (result : Result) : Type 0 wh
   -- The report of what runs is handled or refused.
   pub reports-heard : (task : Task) → T (reported ledger call task) → result .outcome .answer ≡ Ignored → ⊥
 
--- The audit: so it is at every call of any list of calls from a fresh record, ignored and refused ones included.
+-- So it is at every call of a list.
+abbrev pub AllAudited : List Call → List Result → Type 0
+AllAudited = Along Audited entered nothingRuns
+
+-- The audit: for any cache and any list of calls from a fresh record, ignored and refused ones included.
 abbrev pub Audit : Limits → Type 0
-Audit limits = (cache : List ℕ) (calls : List Call) → Along Audited entered nothingRuns calls (resultsOf limits fresh cache calls)
+Audit limits = (cache : List ℕ) (calls : List Call) → AllAudited calls (resultsOf limits fresh cache calls)

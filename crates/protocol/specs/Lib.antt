@@ -8,6 +8,7 @@ pub mod Actions
 pub mod Block
 pub mod Step
 pub mod Run
+pub mod Along
 pub mod Promised
 pub mod Cases
 pub mod Notes
@@ -15,5 +16,4 @@ pub mod History
 pub mod Agreement
 pub mod Always
 pub mod Live
-pub mod Along
 pub mod Audit

@@ -18,10 +18,14 @@ pub record Left : Type 0 where
   pub connection : Connection
   pub cache : List ℕ
 
--- The record and the cache of the last result, or the given ones if there is none.
+-- Those of a result.
+abbrev pub leaves : Result → Left
+leaves result = record { connection = result .outcome .connection; cache = result .cache }
+
+-- Those of the last result, or the given ones if there is none.
 abbrev pub lastOf : Left → List Result → Left
 lastOf left [] = left
-lastOf left (result ∷ results) = lastOf (record { connection = result .outcome .connection; cache = result .cache }) results
+lastOf left (result ∷ results) = lastOf (leaves result) results
 
 -- What a list of calls leaves.
 unfoldable pub leftOf : Limits → Connection → (cache : List ℕ) → List Call → Left

@@ -12,7 +12,6 @@ use Rattle.protocol.specs.declared.Answer.{Answer}
 use Rattle.protocol.specs.declared.Answer.the-variants.{Handled}
 use Rattle.protocol.specs.declared.Outcome.{Outcome}
 use Rattle.record.specs.declared.Connection.{Connection}
-use Rattle.event.specs.declared.Input.{Input}
 use Rattle.event.specs.declared.Suites.{Suites}
 use Rattle.connection.specs.Also.{decidedAlso, resultAlso}
 use Rattle.flat.specs.Flat.{recordIn, slotsOf}
