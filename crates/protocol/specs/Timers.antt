@@ -1,4 +1,5 @@
--- Document 01, "Timers": when each timer starts, and when it ends.
+-- Document 01, "Timers", as request #102 amends it: when each timer starts, and when it ends.
+-- RA goes by its states like the others: event 4 alone leads into them, and out of them lead just what starts a verifier, 21 and locking.
 use Prim.Native.Nat.{ℕ}
 use mathlib.Core.Bool.{Bool, false, not, _&&_, _||_, cond}
 use mathlib.Core.List.{[], _∷_}

@@ -15,7 +15,7 @@ tagOf connection DAT = connection .dat
 tagOf connection RA = connection .ra
 tagOf connection ACK = connection .ack
 
--- The states in which a timer runs: its tag is on just there.
+-- The states in which a timer runs: its tag is on just there. RA is off in 5 and 6 by request #102.
 abbrev pub runsIn : Timer → ℕ → Bool
 runsIn H = isIn (1 ∷ 5 ∷ 6 ∷ [])
 runsIn HP = isIn (2 ∷ 3 ∷ 5 ∷ [])
