@@ -1,5 +1,6 @@
 -- Request #102, the timer audit: what the orders have started, and neither ended nor seen reported, is what the record has a tag for.
--- The ledger is kept from the events, the answers and the actions alone. It reads no record and no state.
+-- The ledger is kept from the events, the answers and the actions alone. It reads no record and no state; with the step it shares what an
+-- event carries and which timer it reports.
 use Prim.Native.Nat.{ℕ, _+_}
 use mathlib.Core.Path.{_≡_}
 use mathlib.Core.Bool.{Bool, true, false, not, _&&_, cond}
