@@ -14,7 +14,7 @@ use Rattle.protocol.specs.Along.{Along}
 use Rattle.protocol.specs.Audit.{AllAudited}
 use Rattle.protocol.specs.Block.{partOf}
 use Rattle.protocol.specs.Run.{resultsOf}
-use Rattle.protocol.specs.Step.{refusalOf, cacheAfter, decided, resultWith, resultOf, unchanged}
+use Rattle.protocol.specs.Step.{Result, refusalOf, cacheAfter, decided, resultWith, resultOf, unchanged}
 use Rattle.protocol.specs.declared.Answer.the-variants.{Refused}
 use Rattle.protocol.specs.declared.Outcome.{Outcome}
 use Rattle.record.specs.Limits.{limits}
@@ -81,8 +81,18 @@ shown connection held lent (call ∷ calls) (g ∷ more) r k a p =
     let h = holds-same g _ (returnedOf result) same (p .0) in
     (h, shown (result .outcome .connection) (result .cache) (record { numbers = g .numbers; cache = g .cache }) calls more (h .record-left) (h .cache-left) (a .1) (p .1))
 
--- From a fresh record, what a host in C got over a list of calls are the numbers of results that agree with the history and that the audit finds in order.
-pub c-host-agrees : (lent : Lent) (calls : List FlatCall) (got : List Got) → recordIn (lent .numbers) ≡ fresh → AllRight calls → AllPromised lent calls got
-    → let results = resultsOf limits fresh (lent .cache) (callsIn calls) in
-    AllShow got results × (AllAgree limits (length (lent .cache)) (callsIn calls) results × AllAudited (callsIn calls) results)
-c-host-agrees lent calls got r a p = (shown fresh (lent .cache) lent calls got r refl a p, (demand3 limits (lent .cache) (callsIn calls), audit limits (lent .cache) (callsIn calls)))
+-- A host in C that began with a fresh record.
+module _ (lent : Lent) (calls : List FlatCall) (got : List Got) (began : recordIn (lent .numbers) ≡ fresh) (right-verdicts : AllRight calls) (promised : AllPromised lent calls got) where
+  abbrev results : List Result
+  results = resultsOf limits fresh (lent .cache) (callsIn calls)
+
+  shows : AllShow got results
+  shows = shown fresh (lent .cache) lent calls got began refl right-verdicts promised
+
+  -- What it got are the numbers of results that agree with the history.
+  pub c-host-agrees : AllShow got results × AllAgree limits (length (lent .cache)) (callsIn calls) results
+  c-host-agrees = (shows, demand3 limits (lent .cache) (callsIn calls))
+
+  -- And that the audit finds in order.
+  pub c-host-audited : AllShow got results × AllAudited (callsIn calls) results
+  c-host-audited = (shows, audit limits (lent .cache) (callsIn calls))

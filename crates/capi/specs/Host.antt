@@ -68,4 +68,4 @@ AllPromised = Along Promised (λ lent call got. record { numbers = got .numbers;
 
 -- What it got are the numbers of these results, one by one.
 abbrev pub AllShow : List Got → List Result → Type 0
-AllShow = Along {S = Unit {0}} (λ nothing got result. Holds got (returnedOf result)) (λ nothing got result. nothing) tt
+AllShow = Along {Past = Unit {0}} (λ nothing got result. Holds got (returnedOf result)) (λ nothing got result. nothing) tt

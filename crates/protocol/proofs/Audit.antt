@@ -2,7 +2,7 @@
 -- Assumes nothing.
 use mathlib.Core.Path.{_≡_, refl, sym, subst, subst⁻¹, ap, _∙_}
 use mathlib.Core.Bool.{Bool, true, false, not, _&&_, _||_, cond, and-false, not-and-self}
-use mathlib.Core.List.{List, [], _∷_}
+use mathlib.Core.List.{List}
 use mathlib.Core.Option.{Option, none, some}
 use Prim.Native.Nat.{ℕ, _+_}
 use native.Mathlib.Omega.{arith}
@@ -15,14 +15,13 @@ use Rattle.record.specs.Limits.{Limits}
 use Rattle.record.specs.Tags.{tagOf, runsIn}
 use Rattle.record.specs.WellFormed.{fresh}
 use Rattle.record.specs.declared.Connection.{Connection}
-use Rattle.table.specs.Sets.{isIn}
 use Rattle.table.specs.Table as table
 use Rattle.protocol.specs.Actions.{noActions, actionsOf}
 use Rattle.protocol.specs.Advance.{raised}
 use Rattle.protocol.specs.Agreement.{isHandled, when}
-use Rattle.protocol.specs.Audit.{Task, timerOf, orderTo, ending, reportsEnd, Ledger, nothingRuns, isOn, isOnWith, reported, isSeen, runningYet, obeyed, entered, Audited, Audit}
-use Rattle.protocol.specs.Condition.{isLive, holds, nextState}
-use Rattle.protocol.specs.Live.{isLiveCall}
+use Rattle.protocol.specs.Audit.{Task, timerOf, orderTo, ending, mayGet, reportsEnd, Ledger, nothingRuns, isOn, isOnWith, reported, isSeen, stillRunning, afterOrder, entered, Audited, Audit}
+use Rattle.protocol.specs.Condition.{Condition, isLive, meets, holds, nextState}
+use Rattle.protocol.specs.Live.{isLiveBy, isLiveEvent}
 use Rattle.protocol.specs.Orders as order
 use Rattle.protocol.specs.Step.{Result, resultOf}
 use Rattle.protocol.specs.Timers.{starts, ends, tagAfter}
@@ -33,7 +32,7 @@ use Rattle.protocol.proofs.Follows.{tag-0}
 use Rattle.protocol.proofs.Live.{nothing-live-ignored}
 use Rattle.protocol.proofs.Moved.{advanced}
 use Rattle.protocol.proofs.Stepped.{Stepped, refused, ignored, handled, stepped, next, still, movedTo, Unrefused, unrefused}
-use Rattle.protocol.proofs.Tasks.{unordered, orderIf, order-of, by-on, goesWith, Fit, fit, asks}
+use Rattle.protocol.proofs.Tasks.{unordered, may-get-none, orderIf, order-of, by-on, goesWith, Fit, fit, asks}
 use Rattle.record.proofs.WellFormed.{parts, off, on}
 use Rattle.table.proofs.Finite.{and-left, and-right, is-true, implied}
 
@@ -57,24 +56,18 @@ tag-law false true r o false false n t p q g = absurd g
 tag-law false false true o false false n t p q g = absurd g
 tag-law false false false o false false n t p q g = refl
 
--- What runs and is not reported runs yet.
-runs-law : (r runs : Bool) (tag : ℕ) → eqb tag 0 ≡ not runs → T (runs && not r) → T (isOn (cond r none (onTag tag)))
-runs-law true true tag p t = absurd t
-runs-law true false tag p t = absurd t
-runs-law false true tag p t = rw p tt
-runs-law false false tag p t = absurd t
+-- What runs and is not reported runs still.
+still-law : (r runs : Bool) (tag : ℕ) → eqb tag 0 ≡ not runs → isOn (cond r none (onTag tag)) ≡ (runs && not r)
+still-law true true tag p = refl
+still-law true false tag p = refl
+still-law false true tag p = rw p
+still-law false false tag p = rw p
 
--- Without an order nothing starts or ends, and nothing is ended or passed a message.
-quiet-law : (s e f : Bool) (x y z : Option ℕ) → T (not (s || (e || f))) → cond s x (cond e y z) ≡ z
-quiet-law true e f x y z t = absurd t
-quiet-law false true f x y z t = absurd t
-quiet-law false false f x y z t = refl
-
-none-law : (s e f : Bool) → T (not (s || (e || f))) → T (e || f) → ⊥
-none-law true e f t u = absurd t
-none-law false true f t u = t
-none-law false false true t u = t
-none-law false false false t u = u
+-- Without an order nothing starts or ends.
+quiet-law : (s e : Bool) (x y z : Option ℕ) → T (not (s || e)) → cond s x (cond e y z) ≡ z
+quiet-law true e x y z t = absurd t
+quiet-law false true x y z t = absurd t
+quiet-law false false x y z t = refl
 
 -- To run with a tag is to be live.
 live-law : (tag own : ℕ) (zero same : Bool) → eqb own 0 ≡ zero → eqb tag own ≡ same → isOnWith tag (onTag own) ≡ isLive tag own
@@ -100,10 +93,10 @@ record Says (ledger : Ledger) (connection : Connection) : Type 0 where
   number : ledger .handled ≡ connection .handled
   tags : (task : Task) → ledger .running task ≡ onTag (tagOf connection (timerOf task))
 
--- It does so after a call, and what is ended or passed a message runs.
+-- It does so after a call, and every task may get its order.
 record Checked (ledger : Ledger) (call : Call) (result : Result) : Type 0 where
   says : Says (entered ledger call result) (result .outcome .connection)
-  orders-fit : (task : Task) → T (isIn (ending task ∷ order.forward ∷ []) (orderTo (result .outcome .actions) task)) → T (isOn (runningYet ledger call (result .outcome .answer) task))
+  orders-fit : (task : Task) → T (mayGet task (isOn (stillRunning ledger call (result .outcome .answer) task)) (orderTo (result .outcome .actions) task))
 
 -- One call. L: the ledger says what the record says before it.
 module _ (limits : Limits) (ledger : Ledger) (connection : Connection) (cache : List ℕ) (call : Call) (L : Says ledger connection) where
@@ -126,14 +119,14 @@ module _ (limits : Limits) (ledger : Ledger) (connection : Connection) (cache : 
       ap (λ (o : Option ℕ). ended task && isOnWith (input .tag) o) (L .tags task)
       ∙ ap (λ (b : Bool). ended task && b) (live-law (input .tag) (own task) (eqb (own task) 0) (eqb (input .tag) (own task)) refl refl)
 
-  reported-live : (task : Task) → T (reported ledger call task) → T (isLiveCall limits connection call (length cache))
-  unfolding holds
+  reported-live : (task : Task) → T (reported ledger call task) → T (isLiveEvent connection (call .event))
+  unfolding inputBy
   reported-live task t =
       let u = subst T (reported-is task) t in
-      subst⁻¹ T (asks connection input task k (input .timer) (and-left (ended task) _ u)) (and-right (ended task) _ u)
+      subst⁻¹ (λ (c : Condition). T (isLiveBy connection (input .tag) c)) (asks task k (input .timer) (and-left (ended task) _ u)) (and-right (ended task) _ u)
 
-  reports-heard : (task : Task) → T (reported ledger call task) → resultOf limits connection call cache .outcome .answer ≡ Ignored → ⊥
-  reports-heard task t = nothing-live-ignored limits connection call cache (reported-live task t)
+  reports-not-ignored : (task : Task) → T (reported ledger call task) → resultOf limits connection call cache .outcome .answer ≡ Ignored → ⊥
+  reports-not-ignored task t = nothing-live-ignored limits connection call cache (reported-live task t)
 
   -- A call that changes nothing orders nothing.
   rests : (answer : Answer) → isHandled answer ≡ false → ((task : Task) → (isSeen answer && reported ledger call task) ≡ false) → Checked ledger call (still answer connection cache)
@@ -141,10 +134,10 @@ module _ (limits : Limits) (ledger : Ledger) (connection : Connection) (cache : 
     says = record {
       number = rw e (L .number);
       tags = λ task.
-          quiet-law (eqb (orderTo noActions task) order.start) (eqb (orderTo noActions task) (ending task)) _ _ _ _ (unordered task)
+          quiet-law (eqb (orderTo noActions task) order.start) (eqb (orderTo noActions task) (ending task)) _ _ _ (unordered task)
           ∙ ap (λ (b : Bool). cond b none (ledger .running task)) (unseen task) ∙ L .tags task;
     };
-    orders-fit = λ task t. absurd (none-law (eqb (orderTo noActions task) order.start) (eqb (orderTo noActions task) (ending task)) _ (unordered task) t);
+    orders-fit = λ task. may-get-none task _;
   }
 
   -- A handled call.
@@ -173,7 +166,8 @@ module _ (limits : Limits) (ledger : Ledger) (connection : Connection) (cache : 
     unfolding holds
     report-is task =
         reported-is task
-        ∙ report-law (ended task) (isLive (input .tag) (own task)) (λ r. subst T (asks connection input task k (input .timer) r) (implied (ended task) _ (F task .live) r))
+        ∙ report-law (ended task) (isLive (input .tag) (own task))
+        (λ r. subst (λ (c : Condition). T (meets connection input c)) (asks task k (input .timer) r) (implied (ended task) _ (F task .live) r))
 
     moves : Checked ledger call (movedTo limits to connection call cache)
     moves = record {
@@ -181,16 +175,14 @@ module _ (limits : Limits) (ledger : Ledger) (connection : Connection) (cache : 
         number = ap (λ (n : ℕ). n + 1) (L .number) ∙ sym (advanced connection k input to .number);
         tags = λ task.
             let x = timerOf task in
-            (λ i. obeyed (order-is task i) (ending task) (L .number i + 1) (cond (report-is task i) none (L .tags task i)))
+            (λ i. afterOrder (order-is task i) (ending task) (L .number i + 1) (cond (report-is task i) none (L .tags task i)))
             ∙ tag-law (eqb (given task) order.start) (eqb (given task) (ending task)) (ended task) (runs task) (starts x k (connection .state) to) (ends x to) (raised connection) (own task)
             (on-is task) (ne-eqb (raised connection) 0 (λ z. omega arith)) (F task .goes)
             ∙ ap onTag (sym (advanced connection k input to .tag x));
       };
-      orders-fit = λ task t.
-          subst⁻¹ T (λ i. isOn (cond (report-is task i) none (L .tags task i)))
-          (runs-law (ended task) (runs task) (own task) (on-is task)
-          (implied (isIn (ending task ∷ order.forward ∷ []) (given task)) (runs task && not (ended task)) (F task .runs)
-          (subst (λ (o : ℕ). T (isIn (ending task ∷ order.forward ∷ []) o)) (order-is task) t)));
+      orders-fit = λ task.
+          subst⁻¹ T ((λ i. mayGet task (isOn (cond (report-is task i) none (L .tags task i))) (order-is task i)) ∙ ap (λ (b : Bool). mayGet task b (given task)) (still-law (ended task) (runs task) (own task) (on-is task)))
+          (F task .gets);
     }
 
   checked : Checked ledger call (resultOf limits connection call cache)
@@ -200,7 +192,7 @@ module _ (limits : Limits) (ledger : Ledger) (connection : Connection) (cache : 
       by-step (refused n e) = subst⁻¹ (Checked ledger call) e (rests _ refl (λ task. refl))
       by-step (ignored n i e) =
           subst⁻¹ (Checked ledger call) e
-          (rests Ignored refl (λ task. never (reported ledger call task) (λ t. reports-heard task t (ap (λ (r : Result). r .outcome .answer) e))))
+          (rests Ignored refl (λ task. never (reported ledger call task) (λ t. reports-not-ignored task t (ap (λ (r : Result). r .outcome .answer) e))))
       by-step (handled n i e) = subst⁻¹ (Checked ledger call) e (moves (unrefused limits connection call cache n) i)
 
 -- The audit of any list of calls.
@@ -209,5 +201,5 @@ audit limits cache calls =
     along limits Audited entered (λ ledger connection cache. Says ledger connection)
     (λ ledger connection cache call L.
     let c = checked limits ledger connection cache call L in
-    (record { tags-on = c .says .tags; orders-fit = c .orders-fit; reports-heard = reports-heard limits ledger connection cache call L }, c .says))
+    (record { tags-on = c .says .tags; orders-fit = c .orders-fit; reports-not-ignored = reports-not-ignored limits ledger connection cache call L }, c .says))
     nothingRuns fresh cache (record { number = refl; tags = λ task. sym (ap onTag (tag-0 (timerOf task))) }) calls

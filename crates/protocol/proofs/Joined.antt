@@ -12,7 +12,7 @@ use Rattle.protocol.specs.Along.{Along}
 use Rattle.protocol.specs.Audit.{AllAudited}
 use Rattle.protocol.specs.Block.{partOf}
 use Rattle.protocol.specs.Promised.{Promised, AllPromised}
-use Rattle.protocol.specs.Run.{Left, leaves, resultsOf}
+use Rattle.protocol.specs.Run.{Left, leftBy, resultsOf}
 use Rattle.protocol.specs.Step.{Result, resultOf}
 use Rattle.protocol.specs.declared.Outcome.{Outcome}
 use Rattle.record.specs.declared.Connection.{Connection}
@@ -42,7 +42,7 @@ are-results limits left [] (got ∷ more) p = absurd p
 are-results limits left (call ∷ calls) [] p = absurd p
 are-results limits left (call ∷ calls) (got ∷ more) p =
     let e = is-result limits left call got (p .0) in
-    let rest = are-results limits (leaves got) calls more (p .1) in
+    let rest = are-results limits (leftBy got) calls more (p .1) in
     λ i. e i ∷ (rest ∙ ap (λ (r : Result). resultsOf limits (r .outcome .connection) (r .cache) calls) e) i
 
 -- A host that began with a fresh record.

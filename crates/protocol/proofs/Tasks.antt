@@ -12,14 +12,13 @@ use Rattle.record.specs.declared.Connection.{Connection}
 use Rattle.table.specs.Sets.{isIn}
 use Rattle.table.specs.Table.{cell, ignored}
 use Rattle.protocol.specs.Actions.{noActions, stopped, proverOrder, verifierOrder, lockingActions, movingActions, ordersOf, actionsOf}
-use Rattle.protocol.specs.Audit.{Task, timer, prover, verifier, timerOf, orderTo, ending, reportsEnd}
-use Rattle.protocol.specs.Condition.{conditionOf, isLive, meets, nextBy}
-use Rattle.protocol.specs.Live.{carriesTag}
+use Rattle.protocol.specs.Audit.{Task, timer, prover, verifier, timerOf, orderTo, ending, mayGet, reportsEnd}
+use Rattle.protocol.specs.Condition.{live, conditionOf, nextBy}
 use Rattle.protocol.specs.Orders as order
 use Rattle.protocol.specs.Timers.{starts, ends, reports, timerOrder}
 use Rattle.record.proofs.EveryTimer.{timers, timers-at}
 use Rattle.table.proofs.Arms.{at-keys, one-of}
-use Rattle.table.proofs.Finite.{and-left, and-right, below, below-at, cells, cells-at}
+use Rattle.table.proofs.Finite.{and-left, and-right, below, below-at, either, either-at, cells, cells-at}
 
 -- A test of every task.
 abbrev tasks : (Task → Bool) → Bool
@@ -30,9 +29,13 @@ tasks-at p t (timer x) = timers-at (λ y. p (timer y)) (and-left (timers (λ y. 
 tasks-at p t prover = and-left (p prover) _ (and-right (timers (λ y. p (timer y))) _ t)
 tasks-at p t verifier = and-right (p prover) _ (and-right (timers (λ y. p (timer y))) _ t)
 
--- The empty sheet neither starts nor ends a task, nor passes it a message.
-pub unordered : (task : Task) → T (not (isIn (order.start ∷ ending task ∷ order.forward ∷ []) (orderTo noActions task)))
-unordered task = tasks-at (λ task. not (isIn (order.start ∷ ending task ∷ order.forward ∷ []) (orderTo noActions task))) tt task
+-- The empty sheet neither starts nor ends a task, and gives it no order that it may not get.
+pub unordered : (task : Task) → T (not (isIn (order.start ∷ ending task ∷ []) (orderTo noActions task)))
+unordered task = tasks-at (λ task. not (isIn (order.start ∷ ending task ∷ []) (orderTo noActions task))) tt task
+
+pub may-get-none : (task : Task) (runs : Bool) → T (mayGet task runs (orderTo noActions task))
+may-get-none task runs =
+    either-at (λ b. mayGet task b (orderTo noActions task)) (tasks-at (λ task. either (λ b. mayGet task b (orderTo noActions task))) tt task) runs
 
 -- The order to a task with a tag, at an event from a state to another.
 abbrev orderIn : (s k to name : ℕ) → Task → (tag : ℕ) → ℕ
@@ -83,14 +86,14 @@ by-on s k to name verifier tag false e = rw e
 abbrev pub goesWith : (starting ending reports runs started ended : Bool) → Bool
 goesWith s e r on started ended = cond s started (not started && cond ended (e || (r || not on)) (not e && not r))
 
--- What holds of a task at an event: its report asks to be live, the ledger goes with its tag, what is ended or passed a message runs.
+-- What holds of a task at an event: its report asks to be live, the ledger goes with its tag, it may get its order.
 abbrev taskFits : (s k to name : ℕ) (held : Bool) → Task → Bool
 taskFits s k to name held task =
     let x = timerOf task in
     let given = orderIf s k to name task (runsIn x s) in
-    (not (reportsEnd task k name) || (carriesTag k && held))
+    (not (reportsEnd task k name) || held)
     && goesWith (eqb given order.start) (eqb given (ending task)) (reportsEnd task k name) (runsIn x s) (starts x k s to) (ends x to)
-    && (not (isIn (ending task ∷ order.forward ∷ []) given) || (runsIn x s && not (reportsEnd task k name)))
+    && mayGet task (runsIn x s && not (reportsEnd task k name)) given
 
 abbrev cellFits : (s k flag : ℕ) (held : Bool) → Bool
 cellFits s k flag held = let to = nextBy s flag k held in eqb to ignored || below 3 (λ name. tasks (taskFits s k to name held))
@@ -102,24 +105,23 @@ all-fit = tt
 
 -- What it says of a task.
 pub record Fit (s k to name : ℕ) (held : Bool) (task : Task) : Type 0 where
-  pub live : T (not (reportsEnd task k name) || (carriesTag k && held))
+  pub live : T (not (reportsEnd task k name) || held)
   pub goes : let given = orderIf s k to name task (runsIn (timerOf task) s) in T (goesWith (eqb given order.start) (eqb given (ending task)) (reportsEnd task k name) (runsIn (timerOf task) s) (starts (timerOf task) k s to) (ends (timerOf task) to))
-  pub runs : let given = orderIf s k to name task (runsIn (timerOf task) s) in T (not (isIn (ending task ∷ order.forward ∷ []) given) || (runsIn (timerOf task) s && not (reportsEnd task k name)))
+  pub gets : T (mayGet task (runsIn (timerOf task) s && not (reportsEnd task k name)) (orderIf s k to name task (runsIn (timerOf task) s)))
 
 pub fit : (s k flag name : ℕ) (held : Bool) (task : Task) → s ≤ 9 → k < 24 → flag ≤ 1 → name < 3 → eqb (nextBy s flag k held) ignored ≡ false → Fit s k (nextBy s flag k held) name held task
 fit s k flag name held task hs hk hf hn e =
     let to = nextBy s flag k held in
     let t = tasks-at (taskFits s k to name held) (below-at 3 (λ name. tasks (taskFits s k to name held)) (rw e at (cells-at cellFits all-fit s k flag held hs hk hf)) name hn) task in
-    record { live = search (and-left, and-right) depth 8; goes = search (and-left, and-right) depth 8; runs = search (and-left, and-right) depth 8 }
+    record { live = search (and-left, and-right) depth 8; goes = search (and-left, and-right) depth 8; gets = search (and-left, and-right) depth 8 }
 
--- An event that reports the end of a task carries a tag, and asks whether it is live for the task.
-pub asks : (c : Connection) (input : Input) (task : Task) (k name : ℕ) → T (reportsEnd task k name)
-    → (carriesTag k && meets c input (conditionOf k name)) ≡ isLive (input .tag) (tagOf c (timerOf task))
-asks c input (timer H) k name t = rw (eqb→eq k 20 (and-left (eqb k 20) _ t), eqb→eq name 0 (and-right (eqb k 20) _ t))
-asks c input (timer HP) k name t = rw (eqb→eq k 20 (and-left (eqb k 20) _ t), eqb→eq name 1 (and-right (eqb k 20) _ t))
-asks c input (timer HV) k name t = rw (eqb→eq k 20 (and-left (eqb k 20) _ t), eqb→eq name 2 (and-right (eqb k 20) _ t))
-asks c input (timer DAT) k name t = rw (eqb→eq k 21 t)
-asks c input (timer RA) k name t = rw (eqb→eq k 22 t)
-asks c input (timer ACK) k name t = rw (eqb→eq k 23 t)
-asks c input prover k name t = at-keys (λ j. (carriesTag j && meets c input (conditionOf j name)) ≡ isLive (input .tag) (c .prover)) (7 ∷ 8 ∷ []) (refl, refl) k (one-of (7 ∷ 8 ∷ []) k t)
-asks c input verifier k name t = at-keys (λ j. (carriesTag j && meets c input (conditionOf j name)) ≡ isLive (input .tag) (c .verifier)) (4 ∷ 5 ∷ []) (refl, refl) k (one-of (4 ∷ 5 ∷ []) k t)
+-- The condition of an event that reports the end of a task is that it is live for the task.
+pub asks : (task : Task) (k name : ℕ) → T (reportsEnd task k name) → conditionOf k name ≡ live (timerOf task)
+asks (timer H) k name t = rw (eqb→eq k 20 (and-left (eqb k 20) _ t), eqb→eq name 0 (and-right (eqb k 20) _ t))
+asks (timer HP) k name t = rw (eqb→eq k 20 (and-left (eqb k 20) _ t), eqb→eq name 1 (and-right (eqb k 20) _ t))
+asks (timer HV) k name t = rw (eqb→eq k 20 (and-left (eqb k 20) _ t), eqb→eq name 2 (and-right (eqb k 20) _ t))
+asks (timer DAT) k name t = rw (eqb→eq k 21 t)
+asks (timer RA) k name t = rw (eqb→eq k 22 t)
+asks (timer ACK) k name t = rw (eqb→eq k 23 t)
+asks prover k name t = at-keys (λ j. conditionOf j name ≡ live HP) (7 ∷ 8 ∷ []) (refl, refl) k (one-of (7 ∷ 8 ∷ []) k t)
+asks verifier k name t = at-keys (λ j. conditionOf j name ≡ live HV) (4 ∷ 5 ∷ []) (refl, refl) k (one-of (4 ∷ 5 ∷ []) k t)

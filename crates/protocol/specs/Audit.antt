@@ -1,9 +1,9 @@
--- Request #102, the timer audit: what the orders have started, and neither ended nor seen reported, is what the record has a tag for.
+-- Request #102, the timer audit: what the orders have started, and neither ended nor seen reported, is just what the record's tags have on.
 -- The ledger is kept from the events, the answers and the actions alone. It reads no record and no state; with the step it shares what an
 -- event carries and which timer it reports.
 use Prim.Native.Nat.{ℕ, _+_}
 use mathlib.Core.Path.{_≡_}
-use mathlib.Core.Bool.{Bool, true, false, not, _&&_, cond}
+use mathlib.Core.Bool.{Bool, true, false, not, _&&_, _||_, cond}
 use mathlib.Core.List.{List, [], _∷_}
 use mathlib.Core.Option.{Option, none, some}
 use lib.Dec.{T, eqb}
@@ -52,6 +52,16 @@ ending (timer x) = order.cancel
 ending prover = order.stop
 ending verifier = order.stop
 
+-- The orders that only a running task gets: the one that ends it and, for a driver, a message.
+abbrev pub whileRunning : Task → List ℕ
+whileRunning (timer x) = order.cancel ∷ []
+whileRunning prover = order.stop ∷ order.forward ∷ []
+whileRunning verifier = order.stop ∷ order.forward ∷ []
+
+-- Whether a task may get an order: none, a start or, if it runs, one of those.
+abbrev pub mayGet : Task → (runs : Bool) (given : ℕ) → Bool
+mayGet task runs given = isIn (order.none ∷ order.start ∷ []) given || isIn (whileRunning task) given && runs
+
 -- Whether an event says that it has ended by itself: a timeout of the timer, OK or FAILED of the driver.
 abbrev pub reportsEnd : Task → (code name : ℕ) → Bool
 reportsEnd (timer x) code name = reports x code name
@@ -83,19 +93,19 @@ reported ledger call task =
     let carried = fieldsOf (kindOf (call .event)) in
     reportsEnd task (call .event .code) (carried .timer) && isOnWith (carried .tag) (ledger .running task)
 
--- A refused call is not seen.
+-- Whether the machine has seen a call: it has, unless it refused it.
 abbrev pub isSeen : Answer → Bool
 isSeen Handled = true
 isSeen Ignored = true
 isSeen (Refused number) = false
 
--- What runs once the call is seen: what it reports does not.
-abbrev pub runningYet : Ledger → Call → Answer → Task → Option ℕ
-runningYet ledger call answer task = cond (isSeen answer && reported ledger call task) none (ledger .running task)
+-- What runs when the orders are given: a report that is seen has ended its task.
+abbrev pub stillRunning : Ledger → Call → Answer → Task → Option ℕ
+stillRunning ledger call answer task = cond (isSeen answer && reported ledger call task) none (ledger .running task)
 
--- What runs after an order: what is started has the number of handled calls as tag.
-abbrev pub obeyed : (given end number : ℕ) → Option ℕ → Option ℕ
-obeyed given end number running = cond (eqb given order.start) (some number) (cond (eqb given end) none running)
+-- What runs after an order: what is started, running or not, has the number of handled calls as tag, this one included.
+abbrev pub afterOrder : (given end number : ℕ) → Option ℕ → Option ℕ
+afterOrder given end number running = cond (eqb given order.start) (some number) (cond (eqb given end) none running)
 
 -- The ledger after a call.
 abbrev pub entered : Ledger → Call → Result → Ledger
@@ -104,17 +114,17 @@ entered ledger call result =
     let number = cond (isHandled answer) (ledger .handled + 1) (ledger .handled) in
     record {
       handled = number;
-      running = λ task. obeyed (orderTo (result .outcome .actions) task) (ending task) number (runningYet ledger call answer task);
+      running = λ task. afterOrder (orderTo (result .outcome .actions) task) (ending task) number (stillRunning ledger call answer task);
     }
 
 -- What the audit finds at a call, given the ledger before it.
 pub record Audited (ledger : Ledger) (call : Call) (result : Result) : Type 0 where
   -- After the call just the tasks whose tags are on run, each with that tag.
   pub tags-on : (task : Task) → let tag = tagOf (result .outcome .connection) (timerOf task) in entered ledger call result .running task ≡ when (not (eqb tag 0)) tag
-  -- What is cancelled, stopped or passed a message runs: nothing is ended twice.
-  pub orders-fit : (task : Task) → T (isIn (ending task ∷ order.forward ∷ []) (orderTo (result .outcome .actions) task)) → T (isOn (runningYet ledger call (result .outcome .answer) task))
+  -- Every order is none, a start, or one to what runs: nothing is ended twice, or after its report.
+  pub orders-fit : (task : Task) → T (mayGet task (isOn (stillRunning ledger call (result .outcome .answer) task)) (orderTo (result .outcome .actions) task))
   -- The report of what runs is handled or refused.
-  pub reports-heard : (task : Task) → T (reported ledger call task) → result .outcome .answer ≡ Ignored → ⊥
+  pub reports-not-ignored : (task : Task) → T (reported ledger call task) → result .outcome .answer ≡ Ignored → ⊥
 
 -- So it is at every call of a list.
 abbrev pub AllAudited : List Call → List Result → Type 0

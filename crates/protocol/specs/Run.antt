@@ -19,13 +19,13 @@ pub record Left : Type 0 where
   pub cache : List ℕ
 
 -- Those of a result.
-abbrev pub leaves : Result → Left
-leaves result = record { connection = result .outcome .connection; cache = result .cache }
+abbrev pub leftBy : Result → Left
+leftBy result = record { connection = result .outcome .connection; cache = result .cache }
 
 -- Those of the last result, or the given ones if there is none.
 abbrev pub lastOf : Left → List Result → Left
 lastOf left [] = left
-lastOf left (result ∷ results) = lastOf (leaves result) results
+lastOf left (result ∷ results) = lastOf (leftBy result) results
 
 -- What a list of calls leaves.
 unfoldable pub leftOf : Limits → Connection → (cache : List ℕ) → List Call → Left

@@ -79,7 +79,7 @@ fitsState state connection =
     && onJustIn RA state (connection .ra)
     && onJustIn ACK state (connection .ack)
 
--- The whole list of document 01.
+-- The whole list of document 01, as request #102 amends it.
 unfoldable pub wellFormed : Limits → Connection → Bool
 wellFormed limits connection =
     fieldsFit limits connection && tagsAtMost (connection .handled) connection && fitsState (connection .state) connection
