@@ -2,7 +2,7 @@
 //! events, the answers and the sheets alone.
 
 use crate::call::{code, Event};
-use crate::orders::{driver, Sheet};
+use crate::orders::{driver, timer, Sheet};
 use crate::record::Record;
 use crate::step::Answer;
 
@@ -59,8 +59,8 @@ pub struct Ledger {
 
 impl Ledger {
     /// Takes off what the event reports, unless the call was refused, and then
-    /// carries out the sheet's orders. False if a cancel, a stop or a pass-on goes
-    /// to what is off.
+    /// carries out the sheet's orders. False if one of them has no meaning, or is a
+    /// cancel, a stop or a pass-on to what is off.
     pub fn hear(&mut self, event: &Event, answer: Answer, sheet: &Sheet) -> bool {
         let seen = !matches!(answer, Answer::Refused(_));
         if let Some(tag) = self.running.reported(event) {
@@ -70,25 +70,28 @@ impl Ledger {
         }
         self.handled += u32::from(answer == Answer::Handled);
         let running = &mut self.running;
-        let obeyed = [
+        let timers = [
             (&mut running.h, sheet.h),
             (&mut running.hp, sheet.hp),
             (&mut running.hv, sheet.hv),
             (&mut running.dat, sheet.dat),
             (&mut running.ra, sheet.ra),
             (&mut running.ack, sheet.ack),
+        ]
+        .map(|(tag, order)| obey(tag, order, timer::CANCEL, self.handled));
+        let drivers = [
             (&mut running.prover, sheet.prover),
             (&mut running.verifier, sheet.verifier),
         ]
-        .map(|(tag, order)| obey(tag, order, self.handled));
-        !obeyed.contains(&false)
+        .map(|(tag, order)| obey(tag, order, driver::PASS_ON, self.handled));
+        !timers.contains(&false) && !drivers.contains(&false)
     }
 }
 
-/// Carries out an order; false if it goes to what is off. The orders to drivers
-/// and timers begin with the same three numbers.
-fn obey(tag: &mut u32, order: u32, started: u32) -> bool {
-    let fits = order <= driver::START || *tag != 0;
+/// Carries out an order, up to `most`; false if it goes to what is off. The orders to
+/// drivers and timers begin with the same three numbers.
+fn obey(tag: &mut u32, order: u32, most: u32, started: u32) -> bool {
+    let fits = order <= driver::START || order <= most && *tag != 0;
     match order {
         driver::START => *tag = started,
         driver::STOP => *tag = 0,
@@ -101,13 +104,20 @@ fn obey(tag: &mut u32, order: u32, started: u32) -> bool {
 mod tests {
     use super::obey;
     use crate::orders::driver::{NONE, PASS_ON, START, STOP};
+    use crate::orders::timer::CANCEL;
 
     #[test]
     fn only_what_runs_is_stopped_or_passed_on_to() {
         let mut tag = 0;
-        let mut fits = |order| obey(&mut tag, order, 9);
+        let mut fits = |order| obey(&mut tag, order, PASS_ON, 9);
         assert!(fits(NONE) && !fits(STOP) && !fits(PASS_ON));
         assert!(fits(START) && fits(PASS_ON) && fits(STOP));
         assert!(!fits(STOP));
+    }
+
+    #[test]
+    fn no_order_beyond_the_last() {
+        assert!(!obey(&mut 5, PASS_ON + 1, PASS_ON, 9));
+        assert!(!obey(&mut 5, PASS_ON, CANCEL, 9));
     }
 }
