@@ -20,7 +20,7 @@ use Rattle.protocol.specs.declared.Outcome.{Outcome}
 use Rattle.record.specs.Limits.{limits}
 use Rattle.record.specs.WellFormed.{fresh}
 use Rattle.record.specs.declared.Connection.{Connection}
-use Rattle.capi.specs.Host.{FlatCall, callIn, callsIn, AllRight, Got, Holds, Lent, AllPromised, AllShow}
+use Rattle.capi.specs.Host.{FlatCall, callIn, callsIn, AllRight, Got, Holds, Lent, lentBy, AllPromised, AllShow}
 use Rattle.capi.specs.Returned.{Returned, returned, returnedOf}
 use Rattle.capi.specs.Verdict.{refusedVerdict, wrongVerdict}
 use Rattle.connection.proofs.Also.{none-also}
@@ -79,7 +79,7 @@ shown connection held lent (call ∷ calls) (g ∷ more) r k a p =
     let result = resultOf limits connection (callIn call) held in
     let same = right (lent .numbers) (lent .cache) call (a .0) ∙ (λ i. returnedOf (resultOf limits (r i) (callIn call) (k i))) in
     let h = holds-same g _ (returnedOf result) same (p .0) in
-    (h, shown (result .outcome .connection) (result .cache) (record { numbers = g .numbers; cache = g .cache }) calls more (h .record-left) (h .cache-left) (a .1) (p .1))
+    (h, shown (result .outcome .connection) (result .cache) (lentBy g) calls more (h .record-left) (h .cache-left) (a .1) (p .1))
 
 -- A host in C that began with a fresh record.
 module _ (lent : Lent) (calls : List FlatCall) (got : List Got) (began : recordIn (lent .numbers) ≡ fresh) (right-verdicts : AllRight calls) (promised : AllPromised lent calls got) where

@@ -57,6 +57,10 @@ pub record Lent : Type 0 where
   pub numbers : List ℕ
   pub cache : List ℕ
 
+-- Those that it holds after a call.
+abbrev pub lentBy : Got → Lent
+lentBy got = record { numbers = got .numbers; cache = got .cache }
+
 -- What the contract of `menhotrac_step` promises for a call.
 abbrev pub Promised : Lent → FlatCall → Got → Type 0
 Promised lent call got =
@@ -64,7 +68,7 @@ Promised lent call got =
 
 -- The same over a list of calls, each given the numbers and the cache that the last one left.
 abbrev pub AllPromised : Lent → List FlatCall → List Got → Type 0
-AllPromised = Along Promised (λ lent call got. record { numbers = got .numbers; cache = got .cache })
+AllPromised = Along Promised (λ lent call got. lentBy got)
 
 -- What it got are the numbers of these results, one by one.
 abbrev pub AllShow : List Got → List Result → Type 0

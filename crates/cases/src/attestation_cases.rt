@@ -124,7 +124,7 @@ fn again() {
         &[],
     );
     show(
-        b"RA reports while the token is missing",
+        b"a late report of RA, while the token is missing",
         EXPIRED,
         tagged(codes::RA_TIMEOUT, 4),
         &[],

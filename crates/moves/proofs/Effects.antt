@@ -6,6 +6,7 @@ use mathlib.Core.Bool.{Bool, true, false, not, _&&_, _||_, cond}
 use Prim.Native.Nat.{ℕ, _<_}
 use lib.Dec.{T, eqb}
 use types.Run.{OneOf}
+use borrow.Author.Tests.{eqb-true}
 use Rattle.protocol.specs.Actions.{lockingActions, movingActions, ordersOf, actionsOf}
 use Rattle.protocol.specs.Advance.{raised, locked, moved, tagsAfter, advance}
 use Rattle.moves.specs.ByEvent.{Effect, keep, start, cancel, expire, clear, effectOf, tagBy, orderBy, byEvent, byLocking, moving}
@@ -24,7 +25,7 @@ use Rattle.event.specs.declared.Input.{Input}
 use Rattle.table.proofs.Arms.{one-of}
 use Rattle.table.proofs.Finite.{and-left, and-right, is-false, cells, cells-at}
 use Rattle.record.proofs.EveryTimer.{timers, timers-at}
-use Rattle.record.proofs.WellFormed.{parts, off, on}
+use Rattle.record.proofs.WellFormed.{parts, off-is}
 
 pub true-or-false : (b : Bool) → (b ≡ true) ⊎ (b ≡ false)
 true-or-false true = inl refl
@@ -47,10 +48,10 @@ fits cancel s e r on = not s && (e && (not r && on))
 fits expire s e r on = not s && (e && r)
 fits clear s e r on = not s && (e && not r)
 
-tag-fits : (x : Effect) (s e r on : Bool) (number tag : ℕ) → (T (not on) → tag ≡ 0) → T (fits x s e r on) → tagBy x number tag ≡ tagAfter s e number tag
+tag-fits : (x : Effect) (s e r on : Bool) (number tag : ℕ) → eqb tag 0 ≡ not on → T (fits x s e r on) → tagBy x number tag ≡ tagAfter s e number tag
 tag-fits keep true e r on n t z f = absurd f
 tag-fits keep false true r true n t z f = absurd f
-tag-fits keep false true r false n t z f = z tt
+tag-fits keep false true r false n t z f = eqb-true t 0 z
 tag-fits keep false false r on n t z f = refl
 tag-fits start true e r on n t z f = refl
 tag-fits start false e r on n t z f = absurd f
@@ -69,26 +70,26 @@ no-cancel : (r : Bool) → _≡_ {A = ℕ} 0 (cond (not r && false) 2 0)
 no-cancel true = refl
 no-cancel false = refl
 
-order-fits : (x : Effect) (s e r on : Bool) (tag : ℕ) → (T (not on) → tag ≡ 0) → (T on → eqb tag 0 ≡ false) → T (fits x s e r on) → orderBy x tag ≡ timerOrder s e r tag
-order-fits keep true e r on t z o f = absurd f
-order-fits keep false true r true t z o f = absurd f
-order-fits keep false true r false t z o f = rw (z tt) (no-cancel r)
-order-fits keep false false r on t z o f = refl
-order-fits start true e r on t z o f = refl
-order-fits start false e r on t z o f = absurd f
-order-fits cancel true e r on t z o f = absurd f
-order-fits cancel false true true on t z o f = absurd f
-order-fits cancel false true false true t z o f = rw (o tt)
-order-fits cancel false true false false t z o f = absurd f
-order-fits cancel false false r on t z o f = absurd f
-order-fits expire true e r on t z o f = absurd f
-order-fits expire false true true on t z o f = refl
-order-fits expire false true false on t z o f = absurd f
-order-fits expire false false r on t z o f = absurd f
-order-fits clear true e r on t z o f = absurd f
-order-fits clear false true true on t z o f = absurd f
-order-fits clear false true false on t z o f = refl
-order-fits clear false false r on t z o f = absurd f
+order-fits : (x : Effect) (s e r on : Bool) (tag : ℕ) → eqb tag 0 ≡ not on → T (fits x s e r on) → orderBy x tag ≡ timerOrder s e r tag
+order-fits keep true e r on t z f = absurd f
+order-fits keep false true r true t z f = absurd f
+order-fits keep false true r false t z f = rw z (no-cancel r)
+order-fits keep false false r on t z f = refl
+order-fits start true e r on t z f = refl
+order-fits start false e r on t z f = absurd f
+order-fits cancel true e r on t z f = absurd f
+order-fits cancel false true true on t z f = absurd f
+order-fits cancel false true false true t z f = rw z
+order-fits cancel false true false false t z f = absurd f
+order-fits cancel false false r on t z f = absurd f
+order-fits expire true e r on t z f = absurd f
+order-fits expire false true true on t z f = refl
+order-fits expire false true false on t z f = absurd f
+order-fits expire false false r on t z f = absurd f
+order-fits clear true e r on t z f = absurd f
+order-fits clear false true true on t z f = absurd f
+order-fits clear false true false on t z f = refl
+order-fits clear false false r on t z f = absurd f
 
 -- What event k, from state s to another, does to a timer fits its rules.
 abbrev effectFits : (s k to : ℕ) → Timer → Bool
@@ -156,11 +157,11 @@ module _ (limits : Limits) (connection : Connection) (code : ℕ) (input : Input
   is-moving = fitting .moves
 
   tag-of : (x : Timer) → tagBy (effectOf code to x) (raised connection) (tagOf connection x) ≡ tagsAfter connection code to x
-  tag-of x = tag-fits (effectOf code to x) (starts x code (connection .state) to) (ends x to) (reports x code 0) (runsIn x (connection .state)) (raised connection) (tagOf connection x) (off limits connection (parts limits connection well) x) (fitting .effect x)
+  tag-of x = tag-fits (effectOf code to x) (starts x code (connection .state) to) (ends x to) (reports x code 0) (runsIn x (connection .state)) (raised connection) (tagOf connection x) (off-is limits connection (parts limits connection well) x) (fitting .effect x)
 
   order-of : (x : Timer) → orderBy (effectOf code to x) (tagOf connection x) ≡ ordersOf connection code input to x
   order-of x =
-      order-fits (effectOf code to x) (starts x code (connection .state) to) (ends x to) (reports x code 0) (runsIn x (connection .state)) (tagOf connection x) (off limits connection (parts limits connection well) x) (on limits connection (parts limits connection well) x) (fitting .effect x)
+      order-fits (effectOf code to x) (starts x code (connection .state) to) (ends x to) (reports x code 0) (runsIn x (connection .state)) (tagOf connection x) (off-is limits connection (parts limits connection well) x) (fitting .effect x)
       ∙ ap (λ (r : Bool). timerOrder (starts x code (connection .state) to) (ends x to) r (tagOf connection x)) (reports-by x code (input .timer) (fitting .no-timeout))
 
   -- What the code does for an event that moves on is what the definitions say.

@@ -8,7 +8,7 @@ use Prim.Native.Nat.{ℕ, _+_}
 use native.Mathlib.Omega.{arith}
 use lib.Dec.{T, eqb}
 use lib.ListN.{length}
-use borrow.Author.Tests.{eqb-true, eq-eqb, ne-eqb}
+use borrow.Author.Tests.{eqb-true, ne-eqb}
 use Rattle.event.specs.Call.{Call, inputBy, inputOf}
 use Rattle.event.specs.declared.Input.{Input}
 use Rattle.record.specs.Limits.{Limits}
@@ -28,12 +28,11 @@ use Rattle.protocol.specs.Timers.{starts, ends, tagAfter}
 use Rattle.protocol.specs.declared.Answer.{Answer}
 use Rattle.protocol.specs.declared.Answer.the-variants.{Ignored}
 use Rattle.protocol.proofs.Along.{along}
-use Rattle.protocol.proofs.Follows.{tag-0}
 use Rattle.protocol.proofs.Live.{nothing-live-ignored}
 use Rattle.protocol.proofs.Moved.{advanced}
 use Rattle.protocol.proofs.Stepped.{Stepped, refused, ignored, handled, stepped, next, still, movedTo, Unrefused, unrefused}
-use Rattle.protocol.proofs.Tasks.{unordered, may-get-none, orderIf, order-of, by-on, goesWith, Fit, fit, asks}
-use Rattle.record.proofs.WellFormed.{parts, off, on}
+use Rattle.protocol.proofs.Tasks.{unordered, may-get-none, orderIf, order-to, by-on, goesWith, Fit, fit, asks}
+use Rattle.record.proofs.WellFormed.{tag-0, parts, off-is}
 use Rattle.table.proofs.Finite.{and-left, and-right, is-true, implied}
 
 -- Laws over tests and numbers. None of them knows the table.
@@ -43,18 +42,18 @@ abbrev onTag : ℕ → Option ℕ
 onTag tag = when (not (eqb tag 0)) tag
 
 -- The ledger goes with the tag.
-tag-law : (s e r runs started ended : Bool) (number tag : ℕ) → eqb tag 0 ≡ not runs → eqb number 0 ≡ false → T (goesWith s e r runs started ended)
+entry-law : (s e r runs started ended : Bool) (number tag : ℕ) → eqb tag 0 ≡ not runs → eqb number 0 ≡ false → T (goesWith s e r runs started ended)
     → cond s (some number) (cond e none (cond r none (onTag tag))) ≡ onTag (tagAfter started ended number tag)
-tag-law true e r o true d n t p q g = rw q
-tag-law true e r o false d n t p q g = absurd g
-tag-law false e r o true d n t p q g = absurd g
-tag-law false true r o false true n t p q g = refl
-tag-law false false true o false true n t p q g = refl
-tag-law false false false true false true n t p q g = absurd g
-tag-law false false false false false true n t p q g = rw p
-tag-law false true r o false false n t p q g = absurd g
-tag-law false false true o false false n t p q g = absurd g
-tag-law false false false o false false n t p q g = refl
+entry-law true e r o true d n t p q g = rw q
+entry-law true e r o false d n t p q g = absurd g
+entry-law false e r o true d n t p q g = absurd g
+entry-law false true r o false true n t p q g = refl
+entry-law false false true o false true n t p q g = refl
+entry-law false false false true false true n t p q g = absurd g
+entry-law false false false false false true n t p q g = rw p
+entry-law false true r o false false n t p q g = absurd g
+entry-law false false true o false false n t p q g = absurd g
+entry-law false false false o false false n t p q g = refl
 
 -- What runs and is not reported runs still.
 still-law : (r runs : Bool) (tag : ℕ) → eqb tag 0 ≡ not runs → isOn (cond r none (onTag tag)) ≡ (runs && not r)
@@ -70,20 +69,17 @@ quiet-law false true x y z t = absurd t
 quiet-law false false x y z t = refl
 
 -- To run with a tag is to be live.
-live-law : (tag own : ℕ) (zero same : Bool) → eqb own 0 ≡ zero → eqb tag own ≡ same → isOnWith tag (onTag own) ≡ isLive tag own
-live-law tag own true same z s = rw (eqb-true own 0 z, not-and-self)
-live-law tag own false true z s = rw (z, s, eqb-true tag own s, z)
-live-law tag own false false z s = rw (z, s, and-false)
+on-with-law : (tag own : ℕ) (zero same : Bool) → eqb own 0 ≡ zero → eqb tag own ≡ same → isOnWith tag (onTag own) ≡ isLive tag own
+on-with-law tag own true same z s = rw (eqb-true own 0 z, not-and-self)
+on-with-law tag own false true z s = rw (z, s, eqb-true tag own s, z)
+on-with-law tag own false false z s = rw (z, s, and-false)
 
 -- A report that has to be live is one.
 report-law : (r live : Bool) → (T r → T live) → (r && live) ≡ r
 report-law true live h = is-true live (h tt)
 report-law false live h = refl
 
-on-law : (runs : Bool) (tag : ℕ) → (T (not runs) → tag ≡ 0) → (T runs → eqb tag 0 ≡ false) → eqb tag 0 ≡ not runs
-on-law true tag z o = o tt
-on-law false tag z o = eq-eqb tag 0 (z tt)
-
+-- What leads to a contradiction does not hold.
 never : (b : Bool) → (T b → ⊥) → b ≡ false
 never true h = absurd (h tt)
 never false h = refl
@@ -117,7 +113,7 @@ module _ (limits : Limits) (ledger : Ledger) (connection : Connection) (cache : 
   unfolding inputBy
   reported-is task =
       ap (λ (o : Option ℕ). ended task && isOnWith (input .tag) o) (L .tags task)
-      ∙ ap (λ (b : Bool). ended task && b) (live-law (input .tag) (own task) (eqb (own task) 0) (eqb (input .tag) (own task)) refl refl)
+      ∙ ap (λ (b : Bool). ended task && b) (on-with-law (input .tag) (own task) (eqb (own task) 0) (eqb (input .tag) (own task)) refl refl)
 
   reported-live : (task : Task) → T (reported ledger call task) → T (isLiveEvent connection (call .event))
   unfolding inputBy
@@ -156,10 +152,10 @@ module _ (limits : Limits) (ledger : Ledger) (connection : Connection) (cache : 
     F task = let p = parts limits connection (U .well) in fit (connection .state) k (connection .«awaiting_ack») (input .timer) (holds connection k input) task (p .state) (U .arguments .code) (p .flag) (U .arguments .timer) heeded
 
     on-is : (task : Task) → eqb (own task) 0 ≡ not (runs task)
-    on-is task = let p = parts limits connection (U .well) in on-law (runs task) (own task) (off limits connection p (timerOf task)) (on limits connection p (timerOf task))
+    on-is task = off-is limits connection (parts limits connection (U .well)) (timerOf task)
 
     order-is : (task : Task) → orderTo (actionsOf connection k input to) task ≡ given task
-    order-is task = order-of connection k input to task ∙ by-on (connection .state) k to (input .timer) task (own task) (runs task) (on-is task)
+    order-is task = order-to connection k input to task ∙ by-on (connection .state) k to (input .timer) task (own task) (runs task) (on-is task)
 
     -- A handled report is live, so that the ledger takes it.
     report-is : (task : Task) → reported ledger call task ≡ ended task
@@ -176,7 +172,7 @@ module _ (limits : Limits) (ledger : Ledger) (connection : Connection) (cache : 
         tags = λ task.
             let x = timerOf task in
             (λ i. afterOrder (order-is task i) (ending task) (L .number i + 1) (cond (report-is task i) none (L .tags task i)))
-            ∙ tag-law (eqb (given task) order.start) (eqb (given task) (ending task)) (ended task) (runs task) (starts x k (connection .state) to) (ends x to) (raised connection) (own task)
+            ∙ entry-law (eqb (given task) order.start) (eqb (given task) (ending task)) (ended task) (runs task) (starts x k (connection .state) to) (ends x to) (raised connection) (own task)
             (on-is task) (ne-eqb (raised connection) 0 (λ z. omega arith)) (F task .goes)
             ∙ ap onTag (sym (advanced connection k input to .tag x));
       };

@@ -5,7 +5,7 @@ use mathlib.Core.Bool.{Bool, true, false, not, _&&_, _||_, cond, or-true}
 use mathlib.Core.List.{List, [], _∷_}
 use Prim.Native.Nat.{ℕ, _<_, _≤_}
 use native.Mathlib.Omega.{arith}
-use lib.Dec.{T, eqb, eqb→eq}
+use lib.Dec.{T, eqb}
 use lib.ListN.{length, take}
 use borrow.Author.Tests.{eq-eqb, ne-eqb}
 use Rattle.record.specs.Limits.{Limits}
@@ -17,7 +17,7 @@ use Rattle.protocol.specs.History.{History, first, runs, stateOf}
 use Rattle.record.specs.declared.Connection.{Connection}
 use Rattle.protocol.proofs.Standings.{consistent, flagOf, Alone, alone}
 use Rattle.record.proofs.EveryTimer.{timers-at}
-use Rattle.record.proofs.WellFormed.{Parts, whole}
+use Rattle.record.proofs.WellFormed.{tag-0, Parts, whole}
 use Rattle.table.proofs.Finite.{is-false}
 
 -- The state that the notes stand for.
@@ -49,9 +49,6 @@ pub record Follows (limits : Limits) (size : ℕ) (history : History) (connectio
 no-timer : (x : Timer) → runs (first .notes) x ≡ false
 unfolding runs
 no-timer x = is-false _ (timers-at (λ x. not (runs (first .notes) x)) tt x)
-
-pub tag-0 : (x : Timer) → tagOf fresh x ≡ 0
-tag-0 x = eqb→eq _ _ (timers-at (λ x. eqb (tagOf fresh x) 0) tt x)
 
 pub follows-first : (limits : Limits) (cache : List ℕ) → Follows limits (length cache) first fresh cache
 unfolding consistent stateOf

@@ -46,9 +46,9 @@ are-results limits left (call ∷ calls) (got ∷ more) p =
     λ i. e i ∷ (rest ∙ ap (λ (r : Result). resultsOf limits (r .outcome .connection) (r .cache) calls) e) i
 
 -- A host that began with a fresh record.
-module _ (limits : Limits) (cache : List ℕ) (calls : List Call) (got : List Result) (p : AllPromised limits (record { connection = fresh; cache = cache }) calls got) where
+module _ (limits : Limits) (cache : List ℕ) (calls : List Call) (got : List Result) (promised : AllPromised limits (record { connection = fresh; cache = cache }) calls got) where
   got-is : got ≡ resultsOf limits fresh cache calls
-  got-is = are-results limits (record { connection = fresh; cache = cache }) calls got p
+  got-is = are-results limits _ calls got promised
 
   -- Demand 3.
   pub host-agrees : AllAgree limits (length cache) calls got

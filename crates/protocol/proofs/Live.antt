@@ -1,17 +1,16 @@
 -- Nothing live is ignored: where a timer runs, the table takes whatever comes from it and from its driver.
 -- Assumes nothing.
-use mathlib.Core.Path.{_≡_, refl, sym, subst, subst⁻¹, ap, _∙_}
+use mathlib.Core.Path.{_≡_, refl, sym, subst, ap, _∙_}
 use mathlib.Core.Bool.{Bool, true, false, not, _||_, not-and-self}
 use mathlib.Core.List.{List}
 use Prim.Native.Nat.{ℕ}
 use lib.Dec.{T, eqb}
 use lib.ListN.{length}
-use borrow.Author.Tests.{eq-eqb}
+use borrow.Author.Tests.{eqb-true, eq-eqb}
 use Rattle.event.specs.Call.{Call, inputBy, inputOf}
 use Rattle.event.specs.declared.Input.{Input}
 use Rattle.record.specs.Limits.{Limits}
 use Rattle.record.specs.Tags.{tagOf, runsIn}
-use Rattle.record.specs.Timer.{Timer}
 use Rattle.record.specs.declared.Connection.{Connection}
 use Rattle.table.specs.Table as table
 use Rattle.protocol.specs.Condition.{Condition, live, goodHello, goodToken, expectedBit, nextSendBit, nothing, conditionOf, isLive, meets, holds, nextBy, nextState}
@@ -20,7 +19,7 @@ use Rattle.protocol.specs.Step.{Result}
 use Rattle.protocol.specs.declared.Answer.{Answer}
 use Rattle.protocol.specs.declared.Answer.the-variants.{Handled, Ignored, Refused}
 use Rattle.protocol.proofs.Stepped.{Stepped, refused, ignored, handled, stepped, next, Unrefused, unrefused}
-use Rattle.record.proofs.WellFormed.{parts, off}
+use Rattle.record.proofs.WellFormed.{parts, off-is}
 use Rattle.table.proofs.Finite.{is-true, is-false, implied, below, below-at, cells, cells-at}
 
 -- Whether a cell takes an event whose condition holds, if its timer runs in the state.
@@ -40,9 +39,10 @@ all-take : T (cells cellTakes)
 unfolding table.cell
 all-take = tt
 
--- A live tag is on.
-live-on : (tag own : ℕ) → T (isLive tag own) → own ≡ 0 → ⊥
-live-on tag own t e = absurd (rw (e, not-and-self) at t)
+-- A timer with a live tag runs, if its tag is on just where it runs.
+live-runs : (tag own : ℕ) (runs : Bool) → eqb own 0 ≡ not runs → T (isLive tag own) → T runs
+live-runs tag own true e t = tt
+live-runs tag own false e t = absurd (rw (eqb-true own 0 e, not-and-self) at t)
 
 -- A call that is not refused.
 module _ (limits : Limits) (connection : Connection) (call : Call) (cache : List ℕ) (U : Unrefused limits connection call cache) where
@@ -56,15 +56,10 @@ module _ (limits : Limits) (connection : Connection) (call : Call) (cache : List
   abbrev then : ℕ
   then = nextBy (connection .state) (connection .«awaiting_ack») k true
 
-  -- A timer with a live tag runs in the state.
-  runs-here : (x : Timer) (b : Bool) → runsIn x (connection .state) ≡ b → T (isLive (input .tag) (tagOf connection x)) → T b
-  runs-here x true e t = tt
-  runs-here x false e t = live-on (input .tag) (tagOf connection x) t (off limits connection (parts limits connection (U .well)) x (subst⁻¹ (λ (b : Bool). T (not b)) e tt))
-
   -- A live event's condition holds, and the table takes it.
   taken-by : (condition : Condition) → T (isLiveBy connection (input .tag) condition) → T (takes (connection .state) k (connection .«awaiting_ack») condition)
       → (meets connection input condition ≡ true) × T (not (eqb then table.ignored))
-  taken-by (live x) m t = (is-true _ m, implied (runsIn x (connection .state)) _ t (runs-here x (runsIn x (connection .state)) refl m))
+  taken-by (live x) m t = (is-true _ m, implied (runsIn x (connection .state)) _ t (live-runs (input .tag) (tagOf connection x) (runsIn x (connection .state)) (off-is limits connection (parts limits connection (U .well)) x) m))
   taken-by goodHello m t = absurd m
   taken-by goodToken m t = absurd m
   taken-by expectedBit m t = absurd m

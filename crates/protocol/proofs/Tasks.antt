@@ -64,9 +64,9 @@ order-by c k input to false e (timer ACK) = refl
 order-by c k input to false e prover = rw e
 order-by c k input to false e verifier = rw e
 
-pub order-of : (c : Connection) (k : ℕ) (input : Input) (to : ℕ) (task : Task) → orderTo (actionsOf c k input to) task ≡ orderIn (c .state) k to (input .timer) task (tagOf c (timerOf task))
+pub order-to : (c : Connection) (k : ℕ) (input : Input) (to : ℕ) (task : Task) → orderTo (actionsOf c k input to) task ≡ orderIn (c .state) k to (input .timer) task (tagOf c (timerOf task))
 unfolding actionsOf
-order-of c k input to task = order-by c k input to (eqb to 9) refl task
+order-to c k input to task = order-by c k input to (eqb to 9) refl task
 
 -- The order if the task runs, or does not.
 abbrev pub orderIf : (s k to name : ℕ) → Task → (runs : Bool) → ℕ
@@ -83,37 +83,54 @@ by-on s k to name verifier tag false e = rw e
 
 -- Whether the ledger goes with the tag, which starts, ends or stays: the order is a start, the one that ends the task, or another; the event
 -- reports the task's end or not; the task runs or not.
-abbrev pub goesWith : (starting ending reports runs started ended : Bool) → Bool
+abbrev pub goesWith : (starting stopping reports runs started ended : Bool) → Bool
 goesWith s e r on started ended = cond s started (not started && cond ended (e || (r || not on)) (not e && not r))
 
--- What holds of a task at an event: its report asks to be live, the ledger goes with its tag, it may get its order.
-abbrev taskFits : (s k to name : ℕ) (held : Bool) → Task → Bool
-taskFits s k to name held task =
+-- What holds of a task at an event from a state to another, by name and by whether the condition holds.
+-- Its report asks to be live.
+abbrev pub reportsLive : (k name : ℕ) (held : Bool) → Task → Bool
+reportsLive k name held task = not (reportsEnd task k name) || held
+
+-- The ledger goes with its tag.
+abbrev pub ledgerGoes : (s k to name : ℕ) → Task → Bool
+ledgerGoes s k to name task =
     let x = timerOf task in
     let given = orderIf s k to name task (runsIn x s) in
-    (not (reportsEnd task k name) || held)
-    && goesWith (eqb given order.start) (eqb given (ending task)) (reportsEnd task k name) (runsIn x s) (starts x k s to) (ends x to)
-    && mayGet task (runsIn x s && not (reportsEnd task k name)) given
+    goesWith (eqb given order.start) (eqb given (ending task)) (reportsEnd task k name) (runsIn x s) (starts x k s to) (ends x to)
+
+-- It may get its order.
+abbrev pub orderFits : (s k to name : ℕ) → Task → Bool
+orderFits s k to name task =
+    let runs = runsIn (timerOf task) s in
+    mayGet task (runs && not (reportsEnd task k name)) (orderIf s k to name task runs)
+
+abbrev taskFits : (s k to name : ℕ) (held : Bool) → Task → Bool
+taskFits s k to name held task = reportsLive k name held task && (ledgerGoes s k to name task && orderFits s k to name task)
 
 abbrev cellFits : (s k flag : ℕ) (held : Bool) → Bool
 cellFits s k flag held = let to = nextBy s flag k held in eqb to ignored || below 3 (λ name. tasks (taskFits s k to name held))
 
 -- The test of all cells.
-all-fit : T (cells cellFits)
+all-tasks-fit : T (cells cellFits)
 unfolding cell
-all-fit = tt
+all-tasks-fit = tt
 
 -- What it says of a task.
 pub record Fit (s k to name : ℕ) (held : Bool) (task : Task) : Type 0 where
-  pub live : T (not (reportsEnd task k name) || held)
-  pub goes : let given = orderIf s k to name task (runsIn (timerOf task) s) in T (goesWith (eqb given order.start) (eqb given (ending task)) (reportsEnd task k name) (runsIn (timerOf task) s) (starts (timerOf task) k s to) (ends (timerOf task) to))
-  pub gets : T (mayGet task (runsIn (timerOf task) s && not (reportsEnd task k name)) (orderIf s k to name task (runsIn (timerOf task) s)))
+  pub live : T (reportsLive k name held task)
+  pub goes : T (ledgerGoes s k to name task)
+  pub gets : T (orderFits s k to name task)
 
 pub fit : (s k flag name : ℕ) (held : Bool) (task : Task) → s ≤ 9 → k < 24 → flag ≤ 1 → name < 3 → eqb (nextBy s flag k held) ignored ≡ false → Fit s k (nextBy s flag k held) name held task
 fit s k flag name held task hs hk hf hn e =
     let to = nextBy s flag k held in
-    let t = tasks-at (taskFits s k to name held) (below-at 3 (λ name. tasks (taskFits s k to name held)) (rw e at (cells-at cellFits all-fit s k flag held hs hk hf)) name hn) task in
-    record { live = search (and-left, and-right) depth 8; goes = search (and-left, and-right) depth 8; gets = search (and-left, and-right) depth 8 }
+    let t = tasks-at (taskFits s k to name held) (below-at 3 (λ name. tasks (taskFits s k to name held)) (rw e at (cells-at cellFits all-tasks-fit s k flag held hs hk hf)) name hn) task in
+    let u = and-right (reportsLive k name held task) _ t in
+    record {
+      live = and-left (reportsLive k name held task) _ t;
+      goes = and-left (ledgerGoes s k to name task) _ u;
+      gets = and-right (ledgerGoes s k to name task) _ u;
+    }
 
 -- The condition of an event that reports the end of a task is that it is live for the task.
 pub asks : (task : Task) (k name : ℕ) → T (reportsEnd task k name) → conditionOf k name ≡ live (timerOf task)

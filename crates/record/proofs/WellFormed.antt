@@ -3,14 +3,19 @@
 use mathlib.Core.Path.{_≡_}
 use mathlib.Core.Bool.{Bool, true, false, not, _&&_, _||_, cond}
 use Prim.Native.Nat.{ℕ, _≤_}
-use lib.Dec.{T, eqb, leb, leb→le}
-use borrow.Author.Tests.{le-leb, eqb-true, not-true}
+use lib.Dec.{T, eqb, eqb→eq, leb, leb→le}
+use borrow.Author.Tests.{le-leb, not-true}
 use Rattle.record.specs.Limits.{Limits}
 use Rattle.record.specs.Tags.{tagOf, runsIn}
 use Rattle.record.specs.Timer.{Timer, H, HP, HV, DAT, RA, ACK}
-use Rattle.record.specs.WellFormed.{fieldsFit, tagsAtMost, numberFits, bitsFit, flagFits, fitsState, onJustIn, wellFormed}
+use Rattle.record.specs.WellFormed.{fresh, fieldsFit, tagsAtMost, numberFits, bitsFit, flagFits, fitsState, onJustIn, wellFormed}
 use Rattle.record.specs.declared.Connection.{Connection}
+use Rattle.record.proofs.EveryTimer.{timers-at}
 use Rattle.table.proofs.Finite.{and-left, and-right, is-true}
+
+-- A fresh record has no tag on.
+pub tag-0 : (timer : Timer) → tagOf fresh timer ≡ 0
+tag-0 timer = eqb→eq _ _ (timers-at (λ x. eqb (tagOf fresh x) 0) tt timer)
 
 pub record Parts (limits : Limits) (c : Connection) : Type 0 where
   pub state : c .state ≤ 9
@@ -95,18 +100,11 @@ whole limits c p =
       p .tag-fits ACK,
     ) tt
 
--- A tag's rule where it is off, and where it is on.
-just-off : (runs : Bool) (tag : ℕ) → cond runs (not (eqb tag 0)) (eqb tag 0) ≡ true → T (not runs) → tag ≡ 0
-just-off true tag t o = absurd o
-just-off false tag t o = eqb-true tag 0 t
-
-just-on : (runs : Bool) (tag : ℕ) → cond runs (not (eqb tag 0)) (eqb tag 0) ≡ true → T runs → eqb tag 0 ≡ false
-just-on true tag t o = not-true (eqb tag 0) t
-just-on false tag t o = absurd o
+-- A tag's rule, said of whether it is off.
+just-in : (runs : Bool) (tag : ℕ) → cond runs (not (eqb tag 0)) (eqb tag 0) ≡ true → eqb tag 0 ≡ not runs
+just-in true tag t = not-true (eqb tag 0) t
+just-in false tag t = t
 
 module _ (limits : Limits) (c : Connection) (p : Parts limits c) (timer : Timer) where
-  pub off : T (not (runsIn timer (c .state))) → tagOf c timer ≡ 0
-  off = just-off (runsIn timer (c .state)) (tagOf c timer) (p .tag-fits timer)
-
-  pub on : T (runsIn timer (c .state)) → eqb (tagOf c timer) 0 ≡ false
-  on = just-on (runsIn timer (c .state)) (tagOf c timer) (p .tag-fits timer)
+  pub off-is : eqb (tagOf c timer) 0 ≡ not (runsIn timer (c .state))
+  off-is = just-in (runsIn timer (c .state)) (tagOf c timer) (p .tag-fits timer)

@@ -62,11 +62,9 @@ pub fn read(program: &Program, mut words: impl Iterator<Item = String>) -> Resul
 }
 
 fn edition(word: Option<String>) -> Result<Edition, String> {
-    match word.as_deref() {
-        Some("printed") => Ok(Edition::Printed),
-        Some("mended") => Ok(Edition::Mended),
-        _ => Err("--edition needs printed or mended".into()),
-    }
+    let named = |edition: &Edition| word.as_deref() == Some(edition.name());
+    let found = Edition::ALL.into_iter().find(named);
+    found.ok_or_else(|| "--edition needs printed or mended".into())
 }
 
 #[cfg(test)]

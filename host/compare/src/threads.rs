@@ -72,18 +72,25 @@ pub fn compare<C: Coverage>(
     }
     drop(sender);
     let (summary, complete) = listen(program, options, &receiver)?.summary();
-    let Options {
-        count,
-        seed,
-        threads,
-        ..
-    } = options;
-    let counted = program.counted;
-    let head = format!("{counted} {count}, seed {seed}, threads {threads}\n{summary}");
+    let head = format!("{}\n{summary}", run(program, options));
     if complete {
         Ok(head + "no difference")
     } else {
         Err(head + "FAILED: no difference, but not what had to be seen")
+    }
+}
+
+/// What is needed to make the same run again.
+fn run(program: &Program, options: &Options) -> String {
+    let (counted, count, seed) = (program.counted, options.count, options.seed);
+    let run = format!(
+        "{counted} {count}, seed {seed}, threads {}",
+        options.threads
+    );
+    if program.takes_edition {
+        run + ", edition " + options.edition.name()
+    } else {
+        run
     }
 }
 

@@ -146,7 +146,7 @@ impl Walk {
         let obeyed = self.ledger.hear(&arguments.call().event, answer, sheet);
         let (running, recorded) = (self.ledger.running, Running::recorded(after));
         let what = if !obeyed {
-            "an order went to a timer or driver that is off"
+            "an order has no meaning, or went to a timer or driver that is off"
         } else if running != recorded {
             "the tags that are on are not those of what runs by the orders"
         } else {

@@ -13,8 +13,12 @@ pub enum Edition {
 }
 
 impl Edition {
-    /// Whether RA may be on in this state, which is not one of its set.
-    pub(crate) fn lets_ra_run_on_in(self, state: u32) -> bool {
-        self == Edition::Printed && [5, 6].contains(&state)
+    pub const ALL: [Edition; 2] = [Edition::Printed, Edition::Mended];
+
+    pub fn name(self) -> &'static str {
+        match self {
+            Edition::Printed => "printed",
+            Edition::Mended => "mended",
+        }
     }
 }

@@ -5,6 +5,7 @@ use crate::call::{code, Event};
 use crate::orders::{driver, timer, Sheet};
 use crate::record::Record;
 use crate::step::Answer;
+use crate::timers::Timer;
 
 /// The tags that timers and drivers run with; 0 for one that is off.
 #[derive(Clone, Copy, Debug, Default, PartialEq, Eq)]
@@ -36,16 +37,21 @@ impl Running {
 
     /// The timer or driver whose end an event reports.
     fn reported(&mut self, event: &Event) -> Option<&mut u32> {
-        match (event.code, event.timer) {
-            (code::RA_VERIFIER_OK | code::RA_VERIFIER_FAILED, _) => Some(&mut self.verifier),
-            (code::RA_PROVER_OK | code::RA_PROVER_FAILED, _) => Some(&mut self.prover),
-            (code::HANDSHAKE_TIMEOUT, 0) => Some(&mut self.h),
-            (code::HANDSHAKE_TIMEOUT, 1) => Some(&mut self.hp),
-            (code::HANDSHAKE_TIMEOUT, 2) => Some(&mut self.hv),
-            (code::DAT_TIMEOUT, _) => Some(&mut self.dat),
-            (code::RA_TIMEOUT, _) => Some(&mut self.ra),
-            (code::ACK_TIMEOUT, _) => Some(&mut self.ack),
-            _ => None,
+        match event.code {
+            code::RA_VERIFIER_OK | code::RA_VERIFIER_FAILED => Some(&mut self.verifier),
+            code::RA_PROVER_OK | code::RA_PROVER_FAILED => Some(&mut self.prover),
+            _ => Timer::reported(event).map(|timer| self.of(timer)),
+        }
+    }
+
+    fn of(&mut self, timer: Timer) -> &mut u32 {
+        match timer {
+            Timer::H => &mut self.h,
+            Timer::Hp => &mut self.hp,
+            Timer::Hv => &mut self.hv,
+            Timer::Dat => &mut self.dat,
+            Timer::Ra => &mut self.ra,
+            Timer::Ack => &mut self.ack,
         }
     }
 }
@@ -78,46 +84,64 @@ impl Ledger {
             (&mut running.ra, sheet.ra),
             (&mut running.ack, sheet.ack),
         ]
-        .map(|(tag, order)| obey(tag, order, timer::CANCEL, self.handled));
+        .map(|(tag, order)| obey(tag, order, TO_TIMER, self.handled));
         let drivers = [
             (&mut running.prover, sheet.prover),
             (&mut running.verifier, sheet.verifier),
         ]
-        .map(|(tag, order)| obey(tag, order, driver::PASS_ON, self.handled));
+        .map(|(tag, order)| obey(tag, order, TO_DRIVER, self.handled));
         !timers.contains(&false) && !drivers.contains(&false)
     }
 }
 
-/// Carries out an order, up to `most`; false if it goes to what is off. The orders to
-/// drivers and timers begin with the same three numbers.
-fn obey(tag: &mut u32, order: u32, most: u32, started: u32) -> bool {
-    let fits = order <= driver::START || order <= most && *tag != 0;
-    match order {
-        driver::START => *tag = started,
-        driver::STOP => *tag = 0,
-        _ => {}
+/// The orders to a timer that runs.
+const TO_TIMER: Orders = Orders {
+    end: timer::CANCEL,
+    others: &[],
+};
+
+/// Those to a driver that runs.
+const TO_DRIVER: Orders = Orders {
+    end: driver::STOP,
+    others: &[driver::PASS_ON],
+};
+
+#[derive(Clone, Copy)]
+struct Orders {
+    end: u32,
+    others: &'static [u32],
+}
+
+/// Carries out an order; false if it has no meaning, or goes to what is off and is
+/// not a start. Drivers and timers have the same numbers for none and start.
+fn obey(tag: &mut u32, order: u32, running: Orders, started: u32) -> bool {
+    let free = [driver::NONE, driver::START].contains(&order);
+    let fits = free || *tag != 0 && (order == running.end || running.others.contains(&order));
+    if order == driver::START {
+        *tag = started;
+    } else if order == running.end {
+        *tag = 0;
     }
     fits
 }
 
 #[cfg(test)]
 mod tests {
-    use super::obey;
+    use super::{obey, TO_DRIVER, TO_TIMER};
     use crate::orders::driver::{NONE, PASS_ON, START, STOP};
-    use crate::orders::timer::CANCEL;
 
     #[test]
     fn only_what_runs_is_stopped_or_passed_on_to() {
         let mut tag = 0;
-        let mut fits = |order| obey(&mut tag, order, PASS_ON, 9);
+        let mut fits = |order| obey(&mut tag, order, TO_DRIVER, 9);
         assert!(fits(NONE) && !fits(STOP) && !fits(PASS_ON));
         assert!(fits(START) && fits(PASS_ON) && fits(STOP));
         assert!(!fits(STOP));
     }
 
     #[test]
-    fn no_order_beyond_the_last() {
-        assert!(!obey(&mut 5, PASS_ON + 1, PASS_ON, 9));
-        assert!(!obey(&mut 5, PASS_ON, CANCEL, 9));
+    fn an_order_has_a_meaning() {
+        assert!(!obey(&mut 5, PASS_ON + 1, TO_DRIVER, 9));
+        assert!(!obey(&mut 5, PASS_ON, TO_TIMER, 9));
     }
 }

@@ -147,12 +147,12 @@ fn verifier_order(turn: &Turn) -> u32 {
     }
 }
 
-/// "The timer that this event reports ... gets no cancel."
+/// "The timer that this event reports, or one with tag 0, gets no cancel."
 fn timer_order(timer: Timer, turn: &Turn) -> u32 {
     let reported = Timer::reported(&turn.call.event) == Some(timer);
     match turn.change(timer) {
         Change::Start => timer::START,
-        Change::End if !reported => timer::CANCEL,
+        Change::End if timer.tag(turn.record) != 0 && !reported => timer::CANCEL,
         _ => timer::NONE,
     }
 }

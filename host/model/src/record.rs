@@ -11,7 +11,6 @@ pub(crate) mod on {
     pub const PROVER: &[u32] = &[2, 3, 5];
     pub const VERIFIER: &[u32] = &[2, 4];
     pub const DAT: &[u32] = &[2, 3, 4, 7, 8];
-    pub const RA: &[u32] = &[3, 7, 8];
     pub const ACK: &[u32] = &[8];
 }
 
@@ -84,11 +83,16 @@ impl Record {
 
     fn tags_fit(&self, edition: Edition) -> bool {
         let just_in = |tag: u32, states: &[u32]| (tag != 0) == states.contains(&self.state);
+        let ra_fits = match self.state {
+            3 | 7 | 8 => self.ra != 0,
+            5 | 6 => edition == Edition::Printed || self.ra == 0,
+            _ => self.ra == 0,
+        };
         just_in(self.h, on::H)
             && just_in(self.prover, on::PROVER)
             && just_in(self.verifier, on::VERIFIER)
             && just_in(self.dat, on::DAT)
-            && (just_in(self.ra, on::RA) || edition.lets_ra_run_on_in(self.state))
             && just_in(self.ack, on::ACK)
+            && ra_fits
     }
 }

@@ -40,16 +40,16 @@ impl Timer {
         }
     }
 
-    /// Whether the state is in the timer's set: timers "run just where the
-    /// well-formed list has their tags on".
+    /// "H, HP, HV, DAT and ACK run just where the well-formed list has their
+    /// tags on." RA follows events instead and has no such set.
     pub(crate) fn runs_in(self, state: u32) -> bool {
         let set = match self {
             Timer::H => on::H,
             Timer::Hp => on::PROVER,
             Timer::Hv => on::VERIFIER,
             Timer::Dat => on::DAT,
-            Timer::Ra => on::RA,
             Timer::Ack => on::ACK,
+            Timer::Ra => &[],
         };
         set.contains(&state)
     }

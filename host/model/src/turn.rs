@@ -30,12 +30,15 @@ impl Turn<'_> {
     }
 
     /// "Each starts on coming into its set of states ... They are cancelled on
-    /// leaving the set ... one with tag 0, gets no cancel."
+    /// leaving the set."
     pub(crate) fn change(&self, timer: Timer) -> Change {
-        match (timer.tag(self.record) != 0, timer.runs_in(self.to)) {
+        if timer == Timer::Ra {
+            return self.ra_change();
+        }
+        match (timer.runs_in(self.record.state), timer.runs_in(self.to)) {
             (false, true) => Change::Start,
             (true, true) if self.restarts(timer) => Change::Start,
-            (true, false) if !self.lets_run_on(timer) => Change::End,
+            (true, false) => Change::End,
             _ => Change::Keep,
         }
     }
@@ -50,10 +53,18 @@ impl Turn<'_> {
         }
     }
 
-    /// As printed, 21 cancels RA "in 7 or 8" alone, so that it runs on in 5 and 6.
-    fn lets_run_on(&self, timer: Timer) -> bool {
-        timer == Timer::Ra
-            && self.edition.lets_ra_run_on_in(self.to)
-            && ![7, 8].contains(&self.record.state)
+    /// "RA starts at event 4, is cancelled when a verifier starts, when 21 is
+    /// handled in 7 or 8, and by locking"; mended, by 21 "in every state where it
+    /// runs".
+    fn ra_change(&self) -> Change {
+        let cancels = self.edition == Edition::Mended || [7, 8].contains(&self.record.state);
+        let token_ended = self.row == Row::DatTimeout && cancels;
+        if self.row == Row::VerifierOk {
+            Change::Start
+        } else if self.row.starts_verifier() || token_ended || self.locks() {
+            Change::End
+        } else {
+            Change::Keep
+        }
     }
 }
