@@ -1,5 +1,6 @@
-//! Measures the archive's step and the archive's reader beside ordinary Rust, and the step beside the model: the same
-//! calls, the programs in turn, the median of many rounds.
+//! Measures the archive's step, reader and choice of suites beside ordinary Rust, the step also beside the model, and
+//! the choice also beside the search that it had before request #103: the same calls, the programs in turn, the median
+//! of many rounds.
 
 #![forbid(unsafe_code)]
 
@@ -7,6 +8,7 @@ mod baseline;
 mod engines;
 mod measure;
 mod mixes;
+mod suites;
 mod wire;
 
 use engines::{Archive, Baseline, Model};
@@ -15,17 +17,22 @@ use mixes::Mix;
 use std::process::ExitCode;
 
 const HELP: &str = "\
-Measures the archive's step beside one in ordinary Rust and beside the model, and the archive's reader beside one in
-ordinary Rust.
+Measures the archive's step beside one in ordinary Rust and beside the model, the archive's reader beside one in
+ordinary Rust, and the archive's choice of suites beside the search that it had before request #103 (former) and beside
+one in ordinary Rust.
 
   bench                     all mixes, medians of 301 rounds
   bench step                those of the step alone
   bench read                those of the reader alone
-  bench MIX PROGRAM         replays of one mix by one program, archive or rust, for a tool that counts instructions
+  bench suites              those of the choice of suites alone
+  bench MIX PROGRAM         replays of one mix by one program, archive or rust, or former for a mix of the suites, for a
+                            tool that counts instructions
   bench --help              this text
 
 Mixes of the step: handshake, data-1, data-4096, re-attestation, ignored, refused.
-Mixes of the reader: read-hello, read-hello-16, read-data-1, read-data-4096, read-ack, read-close, read-refused.";
+Mixes of the reader: read-hello, read-hello-16, read-data-1, read-data-4096, read-ack, read-close, read-refused.
+Mixes of the suites: suites-repeats, suites-none, suites-first, suites-last, suites-short, suites-spread, suites-runs,
+suites-mixed.";
 const ROUNDS: usize = 301;
 const CALLS: usize = 3_000;
 const REPLAYS: usize = 10;
@@ -92,11 +99,14 @@ fn count_steps(mix: &Mix, program: &str) -> Option<usize> {
 fn count(name: &str, program: &str) -> Result<usize, String> {
     let steps = mixes::all(CALLS);
     let messages = wire::mixes::all();
+    let choices = suites::mixes::all();
     let step = steps.iter().find(|mix| mix.name == name);
     let message = messages.iter().find(|mix| mix.name == name);
-    let counted = match (step, message) {
-        (Some(mix), _) => count_steps(mix, program),
-        (_, Some(mix)) => wire::count(mix, program),
+    let choice = choices.iter().find(|mix| mix.name == name);
+    let counted = match (step, message, choice) {
+        (Some(mix), _, _) => count_steps(mix, program),
+        (_, Some(mix), _) => wire::count(mix, program),
+        (_, _, Some(mix)) => suites::count(mix, program),
         _ => return Err(format!("there is no mix \"{name}\"")),
     };
     counted.ok_or_else(|| format!("there is no program \"{program}\""))
@@ -108,9 +118,12 @@ fn run(words: &[String]) -> Result<(), String> {
             report_steps();
             println!();
             wire::report(ROUNDS);
+            println!();
+            suites::report(ROUNDS);
         }
         [word] if word == "step" => report_steps(),
         [word] if word == "read" => wire::report(ROUNDS),
+        [word] if word == "suites" => suites::report(ROUNDS),
         [word] if word == "--help" || word == "-h" => println!("{HELP}"),
         [name, program] => println!("{}", count(name, program)?),
         _ => return Err("wrong arguments".into()),
