@@ -1,23 +1,116 @@
--- The search in what is left of a list, from one entry to the next.
-use mathlib.Core.Path.{_≡_}
-use mathlib.Core.Bool.{Bool, true, false}
-use mathlib.Core.List.{List}
-use Prim.Native.Nat.{ℕ, _+_, _<_, _≤_}
+-- What is left of a list finds: from one entry to the next, in a group of eight, at the places of a list of three.
+use mathlib.Core.Path.{_≡_, refl, sym, ap, _∙_}
+use mathlib.Core.Bool.{Bool, true, false, cond, _||_, or-true, or-false, or-self, or-assoc}
+use mathlib.Core.List.{List, [], _∷_}
+use Prim.Native.Nat.{ℕ, zero, suc, _+_, _-_, _/_, _<_, _≤_}
 use native.Mathlib.Numerals.{add-one}
+use native.Mathlib.Omega.{arith}
 use lib.ListN.{length, getD, drop, drop-of-length-le}
-use lib.Seq.{drop-cons}
-use Rattle.suites.specs.Answer.{foundSuite, notFound}
+use lib.Seq.{drop-cons, drop-drop}
+use Rattle.suites.specs.Answer.{Found, foundSuite, notFound}
 use Rattle.suites.specs.Choice.{find}
 
-module _ (passes : ℕ → Bool) (list : List ℕ) (i : ℕ) where
-  pub here : i < length list → passes (getD list i 0) ≡ true → find passes (drop i list) ≡ foundSuite (getD list i 0)
-  unfolding find
-  here h t = rw (drop-cons list i 0 h, t)
+cond-found : (b : Bool) (suite : ℕ) (f : Found) → cond b (foundSuite suite) f .found ≡ b || f .found
+cond-found true suite f = refl
+cond-found false suite f = refl
 
-  pub later : i < length list → passes (getD list i 0) ≡ false → find passes (drop i list) ≡ find passes (drop (i + 1) list)
-  unfolding find
-  later h t = rw (add-one, drop-cons list i 0 h, t)
+-- Between two that are equal, where each is true if the next is.
+squeeze : (a b c : Bool) → a ≡ c → (c ≡ true → b ≡ true) → (b ≡ true → a ≡ true) → a ≡ b
+squeeze true b c e up down = sym (up (sym e))
+squeeze false false c e up down = refl
+squeeze false true c e up down = down refl
 
-  pub at-end : length list ≤ i → find passes (drop i list) ≡ notFound
+module _ (passes : ℕ → Bool) where
+  pub here : (list : List ℕ) (i : ℕ) → i < length list → passes (getD list i 0) ≡ true → find passes (drop i list) ≡ foundSuite (getD list i 0)
   unfolding find
-  at-end h = rw (drop-of-length-le list {i = i} h)
+  here list i h t = rw (drop-cons list i 0 h, t)
+
+  pub later : (list : List ℕ) (i : ℕ) → i < length list → passes (getD list i 0) ≡ false → find passes (drop i list) ≡ find passes (drop (i + 1) list)
+  unfolding find
+  later list i h t = rw (add-one, drop-cons list i 0 h, t)
+
+  pub at-end : (list : List ℕ) (i : ℕ) → length list ≤ i → find passes (drop i list) ≡ notFound
+  unfolding find
+  at-end list i h = rw (drop-of-length-le list {i = i} h)
+
+  -- Whether what is left from an entry on finds anything.
+  abbrev pub left : List ℕ → ℕ → Bool
+  left list i = find passes (drop i list) .found
+
+  module _ (list : List ℕ) where
+    abbrev test : ℕ → Bool
+    test i = passes (getD list i 0)
+
+    one : (i : ℕ) → i < length list → left list i ≡ test i || left list (i + 1)
+    unfolding find
+    one i h = ap (λ (l : List ℕ). find passes l .found) (drop-cons list i 0 h) ∙ cond-found (test i) (getD list i 0) (find passes (drop (suc i) list)) ∙ rw (add-one)
+
+    two : (b : Bool) (i j k : ℕ) → j ≡ i + 1 → k ≡ j + 1 → k ≤ length list → b || left list i ≡ b || (test i || test j) || left list k
+    two b i j k e f h =
+        ap (λ (c : Bool). b || c) (one i (omega (arith, e, f, h)) ∙ ap (λ (n : ℕ). test i || left list n) (sym e))
+        ∙ ap (λ (c : Bool). b || (test i || c)) (one j (omega (arith, e, f, h)) ∙ ap (λ (n : ℕ). test j || left list n) (sym f))
+        ∙ ap (λ (c : Bool). b || c) (sym (or-assoc (test i) (test j) (left list k)))
+        ∙ sym (or-assoc b (test i || test j) (left list k))
+
+    -- The test of a group of eight, as the search makes it.
+    abbrev pub eightFound : ℕ → Bool
+    eightFound i = test i || test (i + 1) || (test (i + 2) || test (i + 3)) || (test (i + 4) || test (i + 5)) || (test (i + 6) || test (i + 7))
+
+    pub eight : (i : ℕ) → i + 8 ≤ length list → left list i ≡ eightFound i || left list (i + 8)
+    eight i h =
+        let first = test i || test (i + 1) in
+        let second = first || (test (i + 2) || test (i + 3)) in
+        let third = second || (test (i + 4) || test (i + 5)) in
+        two false i (i + 1) (i + 2) refl (omega arith) (omega arith)
+        ∙ two first (i + 2) (i + 3) (i + 4) (omega arith) (omega arith) (omega arith)
+        ∙ two second (i + 4) (i + 5) (i + 6) (omega arith) (omega arith) (omega arith)
+        ∙ two third (i + 6) (i + 7) (i + 8) (omega arith) (omega arith) h
+
+  pub tail-found : (list : List ℕ) (n : ℕ) → left list n ≡ true → left list 0 ≡ true
+  unfolding find
+  tail-found list zero h = h
+  tail-found [] (suc n) h = h
+  tail-found (entry ∷ list) (suc n) h =
+      cond-found (passes entry) entry (find passes list) ∙ ap (λ (b : Bool). passes entry || b) (tail-found list n h) ∙ or-true (passes entry)
+
+  pub between : (list : List ℕ) (m n : ℕ) → left list 0 ≡ left list (m + n) → left list 0 ≡ left list m
+  between list m n e =
+      squeeze _ _ _ e (λ t. tail-found (drop m list) n (ap (λ (l : List ℕ). find passes l .found) (drop-drop n m list) ∙ t)) (tail-found list m)
+
+  module _ (list : List ℕ) (i : ℕ) (h : i + 8 ≤ length list) where
+    pub hit : eightFound list i ≡ true → left list 0 ≡ true
+    hit t = tail-found list i (eight list i h ∙ rw (t))
+
+    -- What was found before a group that finds nothing is found as far as the group reaches.
+    pub past : (m : ℕ) → m ≤ i + 8 → eightFound list i ≡ false → left list 0 ≡ left list i → left list 0 ≡ left list m
+    past m most t e =
+        let all : i + 8 ≡ m + (i + 8 - m) = omega (arith, most) in
+        between list m (i + 8 - m) (e ∙ eight list i h ∙ ap (λ (b : Bool). b || left list (i + 8)) t ∙ ap (left list) all)
+
+  -- Up to three entries stand at the start, in the middle and at the end.
+  pub few :
+      (list : List ℕ) →
+      1 ≤ length list →
+      length list ≤ 3 →
+      left list 0 ≡ passes (getD list 0 0) || passes (getD list (length list / 2) 0) || passes (getD list (length list - 1) 0)
+  unfolding find
+  few [] some most = absurd (omega (arith, some))
+  few (a ∷ []) some most = by (passes a)
+    where
+      by : (x : Bool) → cond x (foundSuite a) notFound .found ≡ x || x || x
+      by true = refl
+      by false = refl
+  few (a ∷ b ∷ []) some most = by (passes a) (passes b)
+    where
+      by : (x y : Bool) → cond x (foundSuite a) (cond y (foundSuite b) notFound) .found ≡ x || y || y
+      by true y = refl
+      by false true = refl
+      by false false = refl
+  few (a ∷ b ∷ c ∷ []) some most = by (passes a) (passes b) (passes c)
+    where
+      by : (x y z : Bool) → cond x (foundSuite a) (cond y (foundSuite b) (cond z (foundSuite c) notFound)) .found ≡ x || y || z
+      by true y z = refl
+      by false true z = refl
+      by false false true = refl
+      by false false false = refl
+  few (a ∷ b ∷ c ∷ d ∷ list) some most = absurd (omega (arith, most))

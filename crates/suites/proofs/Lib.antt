@@ -1,2 +1,4 @@
-pub mod Search
+pub mod Tests
+pub mod Found
+pub mod Longest
 pub mod Numbers

@@ -1,7 +1,13 @@
 // The choice of attestation suites, made once when a connection opens.
 ghost use mathlib.Core.Path.{_≡_};
-ghost use Rattle.suites.specs.Choice.{anyTooLong, firstFound, choice};
-ghost use Rattle.suites.specs.Numbers.{foundOf, answerOf};
+ghost use Prim.Native.Nat.{max};
+ghost use Rattle.suites.specs.Choice.{anyTooLong, choice};
+ghost use Rattle.suites.specs.Numbers.{answerOf};
+
+mod search;
+
+use crate::search::first_common;
+use crate::search::first_pair;
 
 const MAX_ENTRIES: usize = 16;
 
@@ -30,10 +36,21 @@ pub fn choose(
     if any_too_long(our_verifiers, peer_provers, peer_verifiers, our_provers) {
         return Choice::TooLong;
     }
-    Choice::Chosen {
-        verifier: first_common(our_verifiers, peer_provers),
-        prover: first_common(peer_verifiers, our_provers),
+    let mut verifier = first_pair(our_verifiers, peer_provers);
+    if let Common::Nothing = verifier {
+        let searched = first_common(our_verifiers, peer_provers);
+        if let Common::Suite(suite) = searched {
+            verifier = Common::Suite(suite);
+        }
     }
+    let mut prover = first_pair(peer_verifiers, our_provers);
+    if let Common::Nothing = prover {
+        let searched = first_common(peer_verifiers, our_provers);
+        if let Common::Suite(suite) = searched {
+            prover = Common::Suite(suite);
+        }
+    }
+    Choice::Chosen { verifier, prover }
 }
 
 // Whether a list has more than 16 entries, which is the fault of refusal 6.
@@ -45,25 +62,17 @@ pub fn any_too_long(
 ) -> bool
     ensures { λ r. ⌜ r ≡ anyTooLong (now («our_verifiers» .entry)) (now («peer_provers» .entry)) (now («peer_verifiers» .entry)) (now («our_provers» .entry)) ⌝ }
 {
-    (our_verifiers.len() > MAX_ENTRIES)
-        | (peer_provers.len() > MAX_ENTRIES)
-        | (peer_verifiers.len() > MAX_ENTRIES)
-        | (our_provers.len() > MAX_ENTRIES)
+    let first = longer(our_verifiers.len(), peer_provers.len());
+    let second = longer(peer_verifiers.len(), our_provers.len());
+    longer(first, second) > MAX_ENTRIES
 }
 
-// The first entry of `verifiers` found anywhere in `provers`.
-fn first_common(verifiers: &[u32], provers: &[u32]) -> Common
-    ensures { λ r. ⌜ foundOf r ≡ firstFound (now (verifiers .entry)) (now (provers .entry)) ⌝ }
+// The greater of two lengths.
+fn longer(a: usize, b: usize) -> usize
+    ensures { λ r. ⌜ r ≡ max a b ⌝ }
 {
-    let mut common = Common::Nothing;
-    'search: for i in 0..verifiers.len() {
-        let suite = verifiers[i];
-        for j in 0..provers.len() {
-            if suite == provers[j] {
-                common = Common::Suite(suite);
-                break 'search;
-            }
-        }
+    if a > b {
+        return a;
     }
-    common
+    b
 }

@@ -1,0 +1,24 @@
+-- `suites::search::first_pair` meets its contract.
+use mathlib.Core.Path.{_≡_, sym, ap}
+use borrow.Author.Needs.{needs}
+use borrow.Author.Tests.{eq-eqb}
+use Rattle.suites.specs.Answer.{Found}
+use Rattle.suites.proofs.Tests.{never}
+use Rattle.suites.proofs.Found.{here}
+use Rattle.suites.proofs.search.first_pair.Statement.{statement}
+use Rattle.suites.proofs.search.first_pair.Tie as tie
+
+returns-3 : tie.Need-returns-3
+returns-3 c e = sym (here _ _ 0 (search needs) (ap (λ (f : Found). f .found) (here _ _ 0 (search needs) (eq-eqb _ _ (c .before .if3 .taken)))))
+
+pub first-pair-spec : {M : Type 1} → statement M
+first-pair-spec =
+    tie.close
+    (tie.spec
+    (λ c e. never e)
+    (λ c e. never e)
+    (λ c. search needs)
+    (λ c. search needs)
+    (λ c. search needs)
+    returns-3
+    (λ c e. never e))

@@ -1,0 +1,77 @@
+// The search for the first suite that two lists have in common.
+ghost use mathlib.Core.Path.{_≡_};
+ghost use mathlib.Core.Bool.{true, _||_};
+ghost use lib.Dec.{eqb};
+ghost use Rattle.suites.specs.Choice.{firstFound};
+ghost use Rattle.suites.specs.Numbers.{foundOf};
+use crate::Common;
+
+// The first entries of both lists, if they are the same suite, which is then the first in common.
+pub(crate) fn first_pair(verifiers: &[u32], provers: &[u32]) -> Common
+    ensures { λ r. ⌜ (foundOf r .found ≡ true → foundOf r ≡ firstFound (now (verifiers .entry)) (now (provers .entry))) ⌝ }
+{
+    if verifiers.len() == 0 {
+        return Common::Nothing;
+    }
+    if provers.len() == 0 {
+        return Common::Nothing;
+    }
+    if verifiers[0] == provers[0] {
+        return Common::Suite(verifiers[0]);
+    }
+    Common::Nothing
+}
+
+// The first entry of `verifiers` found anywhere in `provers`. Up to three provers stand at the start, in the middle and at
+// the end; eight to sixteen are the first eight and the last eight, which are compared without a branch between them.
+pub(crate) fn first_common(verifiers: &[u32], provers: &[u32]) -> Common
+    ensures { λ r. ⌜ foundOf r ≡ firstFound (now (verifiers .entry)) (now (provers .entry)) ⌝ }
+{
+    let mut common = Common::Nothing;
+    let count = provers.len();
+    if (1 <= count) & (count <= 3) {
+        for i in 0..verifiers.len() {
+            let suite = verifiers[i];
+            if one_of_two(suite, provers[0], provers[count / 2]) | (suite == provers[count - 1]) {
+                return Common::Suite(suite);
+            }
+        }
+    } else if (8 <= count) & (count <= 16) {
+        'groups: for i in 0..verifiers.len() {
+            let suite = verifiers[i];
+            let mut j = 0;
+            loop {
+                if one_of_two(suite, provers[j], provers[j + 1])
+                    | one_of_two(suite, provers[j + 2], provers[j + 3])
+                    | one_of_two(suite, provers[j + 4], provers[j + 5])
+                    | one_of_two(suite, provers[j + 6], provers[j + 7])
+                {
+                    common = Common::Suite(suite);
+                    break 'groups;
+                }
+                if j == count - 8 {
+                    break;
+                }
+                j = count - 8;
+            }
+        }
+    } else {
+        'search: for i in 0..verifiers.len() {
+            let suite = verifiers[i];
+            for j in 0..count {
+                if suite == provers[j] {
+                    common = Common::Suite(suite);
+                    break 'search;
+                }
+            }
+        }
+    }
+    common
+}
+
+// Whether a suite is one of two.
+fn one_of_two(suite: u32, a: u32, b: u32) -> bool
+    ensures { λ r. ⌜ r ≡ eqb suite a || eqb suite b ⌝ }
+{
+    (suite == a) | (suite == b)
+}
