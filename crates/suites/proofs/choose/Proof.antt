@@ -1,94 +1,75 @@
+-- `suites::choose` meets its contract.
+use mathlib.Core.Path.{_≡_, ap, sym, _∙_}
+use mathlib.Core.Bool.{Bool}
+use mathlib.Core.Logic.{⊎-elim}
 use borrow.Author.Needs.{needs}
-use Rattle.suites.proofs.choose.Statement.{statement}
-use Rattle.suites.proofs.choose.Tie as tie
+use Rattle.suites.specs.Answer.{Found, chosen}
+use Rattle.suites.specs.Choice.{choice, firstFound}
+use Rattle.suites.specs.Numbers.{foundOf}
+use Rattle.suites.specs.declared.Common.{Common}
+use Rattle.suites.proofs.any_too_long.Reads as any-too-long
+use Rattle.suites.proofs.search.first_pair.Reads as first-pair
+use Rattle.suites.proofs.search.first_common.Reads as first-common
 use Rattle.suites.proofs.choose.Reads as reads
 use Rattle.suites.proofs.choose.Lts as lts
-use Rattle.suites.proofs.any_too_long.Reads as any-too-long-reads
-use Rattle.suites.proofs.search.first_common.Reads as first-common-reads
-use Rattle.suites.proofs.search.first_pair.Reads as first-pair-reads
+use Rattle.suites.proofs.choose.Statement.{statement}
+use Rattle.suites.proofs.choose.Tie as tie
 
--- src/lib.rt:36:8
-any-too-long-requires : tie.Need-any-too-long-requires
-any-too-long-requires c κs = search needs
+-- Where the verifier's suite is known: searched and found, searched in vain, or found at once.
+abbrev Known : Type 0
+Known = lts.At-match-came (any-too-long.Asked, any-too-long.Learnt, first-pair.Asked, first-pair.Learnt, first-common.Asked, first-common.Learnt) reads.Pre reads.Post
 
--- src/lib.rt:37:9
+abbrev isFound : Common → Bool
+isFound common = foundOf common .found
+
+verifier-found : (k : Known) → foundOf (k .match .verifier) ≡ firstFound (k .before .before .before .before .before .before .before .before .args .our-verifiers .now) (k .before .before .before .before .before .before .before .before .args .peer-provers .now)
+verifier-found k =
+    ⊎-elim
+    (λ w. ap foundOf (w .6 ∙ sym (w .4 .given .1)) ∙ w .2 .ensures)
+    (⊎-elim
+    (λ w. ap foundOf (w .5 ∙ w .1 .given .1 ∙ sym (w .4 .given .1)) ∙ w .2 .ensures)
+    (λ w. ap foundOf (w .2) ∙ k .before .first-pair .ensures (ap isFound (w .1 .given .1))))
+    (k .match .came)
+
+answered :
+    (k : Known) (prover : Found) →
+    prover ≡ firstFound (k .before .before .before .before .before .before .before .before .args .peer-verifiers .now) (k .before .before .before .before .before .before .before .before .args .our-provers .now) →
+    chosen (foundOf (k .match .verifier)) prover ≡ choice (k .before .before .before .before .before .before .before .before .args .our-verifiers .now) (k .before .before .before .before .before .before .before .before .args .peer-provers .now) (k .before .before .before .before .before .before .before .before .args .peer-verifiers .now) (k .before .before .before .before .before .before .before .before .args .our-provers .now)
+unfolding choice
+answered k prover e = rw (sym (k .before .before .before .any-too-long .ensures) ∙ k .before .before .if1 .left, verifier-found k, e)
+
 returns : tie.Need-returns
-returns c = search needs
+unfolding choice
+returns c = rw (sym (c .before .any-too-long .ensures) ∙ c .if1 .taken)
 
--- src/lib.rt:39:9
-first-pair-requires : tie.Need-first-pair-requires
-first-pair-requires c κs = search needs
-
--- src/lib.rt:41:13
-enum-told : tie.Need-enum-told
-enum-told c = search needs
-
--- src/lib.rt:41:13
-first-common-requires : tie.Need-first-common-requires
-first-common-requires c κs = search needs
-
--- src/lib.rt:42:30
-enum-known-searched : tie.Need-enum-known-searched
-enum-known-searched c = search needs
-
-enum-told-2 : tie.Need-enum-told-2
-enum-told-2 c = search needs
-
-enum-told-3 : tie.Need-enum-told-3
-enum-told-3 c = search needs
-
--- src/lib.rt:46:9
-first-pair-requires-2 : tie.Need-first-pair-requires-2
-first-pair-requires-2 c κs = search needs
-
--- src/lib.rt:48:13
-enum-told-4 : tie.Need-enum-told-4
-enum-told-4 c = search needs
-
--- src/lib.rt:48:13
-first-common-requires-2 : tie.Need-first-common-requires-2
-first-common-requires-2 c κs = search needs
-
--- src/lib.rt:49:30
-enum-known-searched-2 : tie.Need-enum-known-searched-2
-enum-known-searched-2 c = search needs
-
-enum-told-5 : tie.Need-enum-told-5
-enum-told-5 c = search needs
-
-enum-told-6 : tie.Need-enum-told-6
-enum-told-6 c = search needs
-
--- src/lib.rt:28:1
 returns-2 : tie.Need-returns-2
-returns-2 c = search needs
+returns-2 c = answered (c .before .before .before .before .before .before .before) _ (ap foundOf (sym (c .before .searched2 .given .1)) ∙ c .before .before .before .first-common2 .ensures)
 
--- src/lib.rt:28:1
 returns-3 : tie.Need-returns-3
-returns-3 c = search needs
+returns-3 c =
+    answered (c .before .before .before .before .before .before) _ (ap foundOf (c .before .before .before .enum-told4 .given .1 ∙ sym (c .enum-told5 .given .1)) ∙ c .before .before .first-common2 .ensures)
 
--- src/lib.rt:28:1
 returns-4 : tie.Need-returns-4
-returns-4 c = search needs
+returns-4 c = answered (c .before .before .before) _ (c .before .before .first-pair2 .ensures (ap isFound (c .enum-told6 .given .1)))
 
 pub choose-spec : {M : Type 1} → statement M
 choose-spec =
     tie.close
     (tie.spec
-    any-too-long-requires
+    (λ c κs. search needs)
     returns
-    first-pair-requires
-    enum-told
-    first-common-requires
-    enum-known-searched
-    enum-told-2
-    enum-told-3
-    first-pair-requires-2
-    enum-told-4
-    first-common-requires-2
-    enum-known-searched-2
-    enum-told-5
-    enum-told-6
+    (λ c κs. search needs)
+    (λ c. search needs)
+    (λ c κs. search needs)
+    (λ c. search needs)
+    (λ c. search needs)
+    (λ c. search needs)
+    (λ c κs. search needs)
+    (λ c. search needs)
+    (λ c κs. search needs)
+    (λ c. search needs)
+    (λ c. search needs)
+    (λ c. search needs)
     returns-2
     returns-3
     returns-4)
