@@ -21,8 +21,8 @@ above n a b =
     (ltb n (max a b))
     (ltb n a || ltb n b)
     (λ e.
-      let m = ltb-false n (max a b) e in
-      neither (ltb n a) (ltb n b) (le-ltb n a (le-trans (le-max-left a b) m)) (le-ltb n b (le-trans (le-max-right a b) m)))
+    let m = ltb-false n (max a b) e in
+    neither (ltb n a) (ltb n b) (le-ltb n a (le-trans (le-max-left a b) m)) (le-ltb n b (le-trans (le-max-right a b) m)))
     (λ e. le-ltb n (max a b) (max-le (ltb-false n a (left-false (ltb n a) (ltb n b) e)) (ltb-false n b (right-false (ltb n a) (ltb n b) e))))
 
 pub longest : (n a b c d : ℕ) → ltb n (max (max a b) (max c d)) ≡ ltb n a || ltb n b || ltb n c || ltb n d
