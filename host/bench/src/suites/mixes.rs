@@ -80,10 +80,15 @@ fn long_pair(random: &mut Random, common: Common) -> Pair {
     pair(random, MAX_LIST_LEN, MAX_LIST_LEN, common)
 }
 
-fn short_pair(random: &mut Random) -> Pair {
-    let [verifiers, provers] = [(); 2].map(|()| 1 + random.below(SHORT) as usize);
+/// Lists of given lengths that have nothing, the first or the last entry in common.
+fn any_pair(random: &mut Random, verifiers: usize, provers: usize) -> Pair {
     let common = random.pick(&[Common::Nothing, Common::First, Common::Last]);
     pair(random, verifiers, provers, common)
+}
+
+fn short_pair(random: &mut Random) -> Pair {
+    let [verifiers, provers] = [(); 2].map(|()| 1 + random.below(SHORT) as usize);
+    any_pair(random, verifiers, provers)
 }
 
 fn mixed_list(random: &mut Random) -> Vec<u32> {
@@ -150,6 +155,10 @@ pub fn all() -> Vec<Mix> {
         mix_of_pairs("suites-first", |random| long_pair(random, Common::First)),
         mix_of_pairs("suites-last", |random| long_pair(random, Common::Last)),
         mix_of_pairs("suites-short", short_pair),
+        mix_of_pairs("suites-one", |random| any_pair(random, 1, 1)),
+        mix_of_pairs("suites-two", |random| any_pair(random, 2, 2)),
+        mix_of_pairs("suites-three", |random| any_pair(random, 3, 3)),
+        mix_of_pairs("suites-seven", |random| any_pair(random, 7, 7)),
         mix_of_repeats("suites-spread", |place| place % REPEATED),
         mix_of_repeats("suites-runs", |place| place * REPEATED / MAX_LIST_LEN),
         mix_of_pairs("suites-mixed", mixed_pair),
@@ -240,6 +249,18 @@ mod tests {
             wanted.insert((verifiers, provers, vec![(verifiers - 1, provers - 1)]));
         }
         assert_eq!(forms, wanted);
+    }
+
+    #[test]
+    fn lists_of_one_length_have_all_outcomes() {
+        for (name, len) in [("one", 1), ("two", 2), ("three", 3), ("seven", 7)] {
+            let mix = of(&format!("suites-{name}"));
+            let form = |pair: &Pair| (pair.verifiers.len(), pair.provers.len(), common(pair));
+            let forms: BTreeSet<_> = pairs(&mix).map(form).collect();
+            let places = [vec![], vec![(0, 0)], vec![(len - 1, len - 1)]];
+            let wanted: BTreeSet<_> = places.map(|places| (len, len, places)).into();
+            assert_eq!(forms, wanted, "{name}");
+        }
     }
 
     #[test]
