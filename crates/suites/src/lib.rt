@@ -24,7 +24,8 @@ pub enum Choice {
 }
 
 // Chooses the suite that our verifier and the peer's prover run, and the suite that the peer's
-// verifier and our prover run. In each pair the verifier's order decides.
+// verifier and our prover run. In each pair the verifier's order decides. Two first entries are compared before the search
+// is called, since they often agree; what it found is taken out of `searched`, which would wait for memory if copied whole.
 pub fn choose(
     our_verifiers: &[u32],
     peer_provers: &[u32],
@@ -53,7 +54,7 @@ pub fn choose(
     Choice::Chosen { verifier, prover }
 }
 
-// Whether a list has more than 16 entries, which is the fault of refusal 6.
+// Whether a list has more than 16 entries, which is the fault of refusal 6. Just the longest decides.
 pub fn any_too_long(
     our_verifiers: &[u32],
     peer_provers: &[u32],

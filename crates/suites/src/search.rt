@@ -22,8 +22,8 @@ pub(crate) fn first_pair(verifiers: &[u32], provers: &[u32]) -> Common
     Common::Nothing
 }
 
-// The first entry of `verifiers` found anywhere in `provers`. Up to three provers stand at the start, in the middle and at
-// the end; eight to sixteen are the first eight and the last eight, which are compared without a branch between them.
+// The first entry of `verifiers` found anywhere in `provers`. Several provers are compared without a branch between them:
+// up to three, which stand at the start, in the middle and at the end, or of eight to sixteen the first and the last eight.
 pub(crate) fn first_common(verifiers: &[u32], provers: &[u32]) -> Common
     ensures { λ r. ⌜ foundOf r ≡ firstFound (now (verifiers .entry)) (now (provers .entry)) ⌝ }
 {
@@ -40,7 +40,7 @@ pub(crate) fn first_common(verifiers: &[u32], provers: &[u32]) -> Common
         'groups: for i in 0..verifiers.len() {
             let suite = verifiers[i];
             let mut j = 0;
-            loop {
+            for half in 0usize..2 {
                 if one_of_two(suite, provers[j], provers[j + 1])
                     | one_of_two(suite, provers[j + 2], provers[j + 3])
                     | one_of_two(suite, provers[j + 4], provers[j + 5])
@@ -48,9 +48,6 @@ pub(crate) fn first_common(verifiers: &[u32], provers: &[u32]) -> Common
                 {
                     common = Common::Suite(suite);
                     break 'groups;
-                }
-                if j == count - 8 {
-                    break;
                 }
                 j = count - 8;
             }

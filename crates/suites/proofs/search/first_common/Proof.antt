@@ -1,10 +1,10 @@
 -- `suites::search::first_common` meets its contract. What is left of each list finds what the whole list finds.
 use mathlib.Core.Path.{_≡_, refl, ap, sym, _∙_}
-use mathlib.Core.Bool.{true, false}
-use Prim.Native.Nat.{_+_, _-_, _≤_}
+use mathlib.Core.Bool.{Bool, false}
+use Prim.Native.Nat.{ℕ, _+_, _-_, _≤_}
 use native.Mathlib.Omega.{arith}
 use borrow.Author.Needs.{needs}
-use borrow.Author.Tests.{eq-eqb, ne-eqb, leb-true}
+use borrow.Author.Tests.{eq-eqb, ne-eqb}
 use lib.Dec.{eqb}
 use lib.ListN.{length, drop}
 use Rattle.suites.specs.Answer.{Found}
@@ -16,6 +16,9 @@ use Rattle.suites.proofs.Found.{here, later, at-end, left, hit, past, t
 use Rattle.suites.proofs.search.first_common.Statement.{statement}
 use Rattle.suites.proofs.search.first_common.Tie as tie
 
+abbrev isFound : Found → Bool
+isFound f = f .found
+
 abbrev Inv-loop : tie.InvT-loop
 Inv-loop verifiers provers common count i₀ i-end i =
     (firstFound verifiers provers ≡ firstFound (drop i verifiers) provers) × Within 1 3 count
@@ -24,11 +27,16 @@ abbrev μ-loop : tie.MeasureT-loop
 μ-loop verifiers provers common count i₀ i-end i = i-end - i
 
 abbrev Inv-loop2 : tie.InvT-loop2
-Inv-loop2 verifiers provers common₀ count i suite j₀ i-end common j =
-    (foundIn provers suite ≡ left (eqb suite) provers j) × (common ≡ Nothing) × (j + 8 ≤ count) × Within 8 16 count
+Inv-loop2 verifiers provers common₀ count i suite j₀ half₀ i-end common j half =
+    (foundIn provers suite ≡ left (eqb suite) provers j)
+    × (common ≡ Nothing)
+    × (j + 8 ≤ count)
+    × Within 8 16 count
+    × (1 ≤ half → j + 8 ≡ count)
+    × (2 ≤ half → foundIn provers suite ≡ false)
 
 abbrev μ-loop2 : tie.MeasureT-loop2
-μ-loop2 verifiers provers common₀ count i suite j₀ i-end common j = count - j
+μ-loop2 verifiers provers common₀ count i suite j₀ half₀ i-end common j half = 2 - half
 
 abbrev Inv-groups : tie.InvT-groups
 Inv-groups verifiers provers common₀ count i₀ i-end common i =
@@ -69,31 +77,42 @@ loop-again c =
 groups-holds : tie.Need-groups-holds Inv-loop μ-loop Inv-loop2 μ-loop2 Inv-groups μ-groups Inv-loop3 μ-loop3 Inv-search μ-search
 groups-holds c = (refl, refl, within 8 16 (length (c .before .before .before .before .args .provers .now)) (c .if3 .taken))
 
+loop2-holds : tie.Need-loop2-holds Inv-loop μ-loop Inv-loop2 μ-loop2 Inv-groups μ-groups Inv-loop3 μ-loop3 Inv-search μ-search
+loop2-holds c =
+    let o = c .before .before .groups in
+    (refl, o .inv .1, o .inv .2 .0, o .inv .2, λ some. omega (arith, some), λ all. absurd (omega (arith, all)))
+
 loop2-again : tie.Need-loop2-again Inv-loop μ-loop Inv-loop2 μ-loop2 Inv-groups μ-groups Inv-loop3 μ-loop3 Inv-search μ-search
 loop2-again c =
     let count = length (c .before .before .before .before .before .before .before .before .before .before .before .before .before .before .before .before .before .before .before .before .before .before .args .provers .now) in
     let l = c .before .before .before .before .before .before .before .before .before .before .before .before .before .before .loop2 in
-    let t = rw (c .before .before .one-of-two5 .ensures, c .before .before .before .before .before .one-of-two4 .ensures, c .before .before .before .before .before .before .before .before .one-of-two3 .ensures, c .before .before .before .before .before .before .before .before .before .before .before .one-of-two2 .ensures) at (c .before .if4 .left) in
-    (past _ _ (l .j) (l .inv .2) (count - 8) (omega (arith, l .inv .3)) t (l .inv .0), l .inv .1, omega (arith, l .inv .3), l .inv .3)
+    let t = rw (c .before .one-of-two5 .ensures, c .before .before .before .before .one-of-two4 .ensures, c .before .before .before .before .before .before .before .one-of-two3 .ensures, c .before .before .before .before .before .before .before .before .before .before .one-of-two2 .ensures) at (c .if4 .left) in
+    let e = l .inv .0 in
+    let h = l .inv .2 in (
+      past _ _ (l .j) h (count - 8) (omega (arith, l .inv .3)) t e,
+      l .inv .1,
+      omega (arith, l .inv .3),
+      l .inv .3,
+      λ some. omega (arith, l .inv .3),
+      λ all. past _ _ (l .j) h count (omega (arith, l .inv .4 (omega (arith, all)))) t e ∙ ap isFound (at-end _ _ count (omega arith)),
+    )
 
 groups-again : tie.Need-groups-again Inv-loop μ-loop Inv-loop2 μ-loop2 Inv-groups μ-groups Inv-loop3 μ-loop3 Inv-search μ-search
 groups-again c =
-    let count = length (c .before .before .before .before .before .before .before .before .before .before .before .before .before .before .before .before .before .before .before .before .before .before .args .provers .now) in
-    let l = c .before .before .before .before .before .before .before .before .before .before .before .before .before .before .loop2 in
-    let o = c .before .before .before .before .before .before .before .before .before .before .before .before .before .before .before .before .before .groups in
-    let t = rw (c .before .before .one-of-two5 .ensures, c .before .before .before .before .before .one-of-two4 .ensures, c .before .before .before .before .before .before .before .before .one-of-two3 .ensures, c .before .before .before .before .before .before .before .before .before .before .before .one-of-two2 .ensures) at (c .before .if4 .left) in
-    (o .inv .0 ∙ later _ _ (o .i) (search needs) (past _ _ (l .j) (l .inv .2) count (omega (arith, l .inv .3, c .if5 .taken)) t (l .inv .0) ∙ ap (λ (f : Found). f .found) (at-end _ _ count (omega arith))), l .inv .1, o .inv .2)
+    let l = c .before .loop2 in
+    let o = c .before .before .before .before .groups in
+    (o .inv .0 ∙ later _ _ (o .i) (search needs) (l .inv .5 (c .loop2-test .left)), l .inv .1, l .inv .3)
 
 loop3-again : tie.Need-loop3-again Inv-loop μ-loop Inv-loop2 μ-loop2 Inv-groups μ-groups Inv-loop3 μ-loop3 Inv-search μ-search
 loop3-again c =
     let l = c .before .before .before .loop3 in
-    (l .inv .0 ∙ ap (λ (f : Found). f .found) (later _ _ (l .j) (search needs) (ne-eqb _ _ (c .if6 .left))), l .inv .1)
+    (l .inv .0 ∙ ap isFound (later _ _ (l .j) (search needs) (ne-eqb _ _ (c .if5 .left))), l .inv .1)
 
 search-again : tie.Need-search-again Inv-loop μ-loop Inv-loop2 μ-loop2 Inv-groups μ-groups Inv-loop3 μ-loop3 Inv-search μ-search
 search-again c =
     let l = c .before .loop3 in
     let o = c .before .before .before .before .search in
-    (o .inv .0 ∙ later _ _ (o .i) (search needs) (l .inv .0 ∙ ap (λ (f : Found). f .found) (at-end _ _ (l .j) (c .loop3-test .left))), l .inv .1)
+    (o .inv .0 ∙ later _ _ (o .i) (search needs) (l .inv .0 ∙ ap isFound (at-end _ _ (l .j) (c .loop3-test .left))), l .inv .1)
 
 returns-2 : tie.Need-returns-2 Inv-loop μ-loop Inv-loop2 μ-loop2 Inv-groups μ-groups Inv-loop3 μ-loop3 Inv-search μ-search
 returns-2 c = sym (c .before .loop .inv .0 ∙ at-end _ _ (c .before .loop .i) (c .loop-test .left))
@@ -105,8 +124,8 @@ returns-3 c =
 
 returns-4 : tie.Need-returns-4 Inv-loop μ-loop Inv-loop2 μ-loop2 Inv-groups μ-groups Inv-loop3 μ-loop3 Inv-search μ-search
 returns-4 c =
-    let l = c .before .before .before .before .before .before .before .before .before .before .before .before .before .loop2 in
-    let o = c .before .before .before .before .before .before .before .before .before .before .before .before .before .before .before .before .groups in
+    let l = c .before .before .before .before .before .before .before .before .before .before .before .before .before .before .loop2 in
+    let o = c .before .before .before .before .before .before .before .before .before .before .before .before .before .before .before .before .before .groups in
     let t = rw (c .before .one-of-two5 .ensures, c .before .before .before .before .one-of-two4 .ensures, c .before .before .before .before .before .before .before .one-of-two3 .ensures, c .before .before .before .before .before .before .before .before .before .before .one-of-two2 .ensures) at (c .if4 .taken) in
     sym (o .inv .0 ∙ here _ _ (o .i) (search needs) (hit _ _ (l .j) (l .inv .2) t))
 
@@ -119,7 +138,7 @@ returns-6 : tie.Need-returns-6 Inv-loop μ-loop Inv-loop2 μ-loop2 Inv-groups μ
 returns-6 c =
     let l = c .before .before .before .loop3 in
     let o = c .before .before .before .before .before .before .search in
-    sym (o .inv .0 ∙ here _ _ (o .i) (search needs) (tail-found _ _ (l .j) (ap (λ (f : Found). f .found) (here _ _ (l .j) (search needs) (eq-eqb _ _ (c .if6 .taken))))))
+    sym (o .inv .0 ∙ here _ _ (o .i) (search needs) (tail-found _ _ (l .j) (ap isFound (here _ _ (l .j) (search needs) (eq-eqb _ _ (c .if5 .taken))))))
 
 pub first-common-spec : {M : Type 1} → statement M
 first-common-spec =
@@ -152,7 +171,7 @@ first-common-spec =
     groups-holds
     (λ c. search needs)
     (λ c. search needs)
-    (λ c. search needs)
+    loop2-holds
     (λ c. search needs)
     (λ c. search needs)
     (λ c. search needs)
