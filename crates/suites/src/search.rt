@@ -29,32 +29,30 @@ pub(crate) fn first_common(verifiers: &[u32], provers: &[u32]) -> Common
 {
     let mut common = Common::Nothing;
     let count = provers.len();
-    if (1 <= count) & (count <= 3) {
-        for i in 0..verifiers.len() {
-            let suite = verifiers[i];
+    'search: for i in 0..verifiers.len() {
+        let suite = verifiers[i];
+        if (1 <= count) & (count <= 3) {
             if one_of_two(suite, provers[0], provers[count / 2]) | (suite == provers[count - 1]) {
-                return Common::Suite(suite);
+                common = Common::Suite(suite);
+                break 'search;
             }
-        }
-    } else if (8 <= count) & (count <= 16) {
-        'groups: for i in 0..verifiers.len() {
-            let suite = verifiers[i];
+        } else if (8 <= count) & (count <= 16) {
             let mut j = 0;
-            for half in 0usize..2 {
+            loop {
                 if one_of_two(suite, provers[j], provers[j + 1])
                     | one_of_two(suite, provers[j + 2], provers[j + 3])
                     | one_of_two(suite, provers[j + 4], provers[j + 5])
                     | one_of_two(suite, provers[j + 6], provers[j + 7])
                 {
                     common = Common::Suite(suite);
-                    break 'groups;
+                    break 'search;
+                }
+                if j == count - 8 {
+                    break;
                 }
                 j = count - 8;
             }
-        }
-    } else {
-        'search: for i in 0..verifiers.len() {
-            let suite = verifiers[i];
+        } else {
             for j in 0..count {
                 if suite == provers[j] {
                     common = Common::Suite(suite);
