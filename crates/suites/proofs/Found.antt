@@ -1,10 +1,15 @@
 -- What is left of a list finds: from one entry to the next, in a group of eight, at the places of a list of three.
-use mathlib.Core.Path.{_≡_, refl, sym, ap, _∙_}
-use mathlib.Core.Bool.{Bool, true, false, cond, _||_, or-true, or-false, or-self, or-assoc}
+use mathlib.Core.Path.{_≡_, refl, sym, ap, subst, _∙_}
+use mathlib.Core.Bool.{Bool, true, false, cond, _||_, or-true, or-assoc}
 use mathlib.Core.List.{List, [], _∷_}
+use mathlib.Core.Logic.{_⊎_, inl, inr, ⊎-elim}
+use mathlib.Mathlib.Data.Bool.Basic.{or-eq-false-eq-eq-false-and-eq-false}
 use Prim.Native.Nat.{ℕ, zero, suc, _+_, _-_, _/_, _<_, _≤_}
+use native.Mathlib.Nat.{eq-or-lt-of-le}
 use native.Mathlib.Numerals.{add-one}
 use native.Mathlib.Omega.{arith}
+use borrow.Author.Tests.{ltb-true, ltb-false}
+use lib.Dec.{ltb}
 use lib.ListN.{length, getD, drop, drop-of-length-le}
 use lib.Seq.{drop-cons, drop-drop}
 use Rattle.suites.specs.Answer.{Found, foundSuite, notFound}
@@ -13,6 +18,10 @@ use Rattle.suites.specs.Choice.{find}
 cond-found : (b : Bool) (suite : ℕ) (f : Found) → cond b (foundSuite suite) f .found ≡ b || f .found
 cond-found true suite f = refl
 cond-found false suite f = refl
+
+either : (a b : Bool) → a || b ≡ true → (a ≡ true) ⊎ (b ≡ true)
+either true b e = inl refl
+either false b e = inr e
 
 -- Between two that are equal, where each is true if the next is.
 squeeze : (a b c : Bool) → a ≡ c → (c ≡ true → b ≡ true) → (b ≡ true → a ≡ true) → a ≡ b
@@ -86,6 +95,48 @@ module _ (passes : ℕ → Bool) where
     past m most t e =
         let all : i + 8 ≡ m + (i + 8 - m) = omega (arith, most) in
         between list m (i + 8 - m) (e ∙ eight list i h ∙ ap (λ (b : Bool). b || left list (i + 8)) t ∙ ap (left list) all)
+
+  none-found : (list : List ℕ) → ((i : ℕ) → i < length list → passes (getD list i 0) ≡ false) → find passes list .found ≡ false
+  unfolding find
+  none-found [] none = refl
+  none-found (entry ∷ list) none =
+      cond-found (passes entry) entry (find passes list) ∙ rw (none 0 (omega arith), none-found list (λ i h. none (suc i) (omega (arith, h))))
+
+  -- The first and the last entries, as many of each, do not pass.
+  abbrev pub Apart : List ℕ → ℕ → Type 0
+  Apart list n = (k : ℕ) → k < n → (passes (getD list k 0) ≡ false) × (passes (getD list (length list - 1 - k) 0) ≡ false)
+
+  pub apart-next :
+      (list : List ℕ) (n : ℕ) →
+      Apart list n →
+      passes (getD list n 0) || passes (getD list (length list - 1 - n) 0) ≡ false →
+      Apart list (n + 1)
+  apart-next list n apart e k h =
+      ⊎-elim
+      (λ same. subst (λ (m : ℕ). (passes (getD list m 0) ≡ false) × (passes (getD list (length list - 1 - m) 0) ≡ false)) (sym same) (or-eq-false-eq-eq-false-and-eq-false (passes (getD list n 0)) (passes (getD list (length list - 1 - n) 0)) .0 e))
+      (apart k)
+      (eq-or-lt-of-le (omega (arith, h)))
+
+  pub apart-all : (list : List ℕ) (n : ℕ) → length list ≤ n + n → Apart list n → left list 0 ≡ false
+  apart-all list n enough apart = none-found list (λ i h. by i h (ltb i n) refl)
+    where
+      by : (i : ℕ) → i < length list → (b : Bool) → ltb i n ≡ b → passes (getD list i 0) ≡ false
+      by i h true e = apart i (ltb-true i n e) .0
+      by i h false e =
+          let m = length list - 1 - i in
+          let back : length list - 1 - m ≡ i = omega (arith, h) in
+          ap (λ (k : ℕ). passes (getD list k 0)) (sym back) ∙ apart m (omega (arith, h, enough, ltb-false i n e)) .1
+
+  found-at : (list : List ℕ) (i : ℕ) → i < length list → passes (getD list i 0) ≡ true → left list 0 ≡ true
+  found-at list i h t = tail-found list i (ap (λ (f : Found). f .found) (here list i h t))
+
+  pub either-found :
+      (list : List ℕ) (i k : ℕ) →
+      i < length list →
+      k < length list →
+      passes (getD list i 0) || passes (getD list k 0) ≡ true →
+      left list 0 ≡ true
+  either-found list i k h m t = ⊎-elim (found-at list i h) (found-at list k m) (either (passes (getD list i 0)) (passes (getD list k 0)) t)
 
   -- Up to three entries stand at the start, in the middle and at the end.
   pub few :

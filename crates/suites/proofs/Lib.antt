@@ -1,4 +1,4 @@
-pub mod Tests
+pub mod Within
 pub mod Found
 pub mod Longest
 pub mod Numbers

@@ -24,8 +24,9 @@ pub enum Choice {
 }
 
 // Chooses the suite that our verifier and the peer's prover run, and the suite that the peer's
-// verifier and our prover run. In each pair the verifier's order decides. Two first entries are compared before the search
-// is called, since they often agree; what it found is taken out of `searched`, which would wait for memory if copied whole.
+// verifier and our prover run. In each pair the verifier's order decides. The first entries are compared before the search,
+// so that no call is made where both ends prefer the same suite. What was searched is opened and its suite put into a new
+// value: a copy of the whole enum, which was written in two parts, is slower.
 pub fn choose(
     our_verifiers: &[u32],
     peer_provers: &[u32],
@@ -54,7 +55,8 @@ pub fn choose(
     Choice::Chosen { verifier, prover }
 }
 
-// Whether a list has more than 16 entries, which is the fault of refusal 6. Just the longest decides.
+// Whether a list has more than 16 entries, which is the fault of refusal 6. Only the greatest length is compared with
+// the limit: four tests would make `choose` too large to be compiled into its callers.
 pub fn any_too_long(
     our_verifiers: &[u32],
     peer_provers: &[u32],

@@ -22,8 +22,9 @@ pub(crate) fn first_pair(verifiers: &[u32], provers: &[u32]) -> Common
     Common::Nothing
 }
 
-// The first entry of `verifiers` found anywhere in `provers`. Several provers are compared without a branch between them:
-// up to three, which stand at the start, in the middle and at the end, or of eight to sixteen the first and the last eight.
+// The first entry of `verifiers` found anywhere in `provers`. One to three provers are those at 0, count / 2 and count - 1;
+// eight to sixteen are the first eight and the last eight. These are compared without a branch between them, which the
+// compiler turns into vector instructions where it can. Provers in any other number are gone through from both ends.
 pub(crate) fn first_common(verifiers: &[u32], provers: &[u32]) -> Common
     ensures { λ r. ⌜ foundOf r ≡ firstFound (now (verifiers .entry)) (now (provers .entry)) ⌝ }
 {
@@ -53,8 +54,8 @@ pub(crate) fn first_common(verifiers: &[u32], provers: &[u32]) -> Common
                 j = count - 8;
             }
         } else {
-            for j in 0..count {
-                if suite == provers[j] {
+            for j in 0..(count + 1) / 2 {
+                if one_of_two(suite, provers[j], provers[count - 1 - j]) {
                     common = Common::Suite(suite);
                     break 'search;
                 }
@@ -64,7 +65,7 @@ pub(crate) fn first_common(verifiers: &[u32], provers: &[u32]) -> Common
     common
 }
 
-// Whether a suite is one of two.
+// Whether a suite is one of two. It takes entries, since a list that is handed on goes through memory.
 fn one_of_two(suite: u32, a: u32, b: u32) -> bool
     ensures { λ r. ⌜ r ≡ eqb suite a || eqb suite b ⌝ }
 {

@@ -32,7 +32,7 @@ one in ordinary Rust.
 Mixes of the step: handshake, data-1, data-4096, re-attestation, ignored, refused.
 Mixes of the reader: read-hello, read-hello-16, read-data-1, read-data-4096, read-ack, read-close, read-refused.
 Mixes of the suites: suites-repeats, suites-none, suites-first, suites-last, suites-short, suites-one, suites-two,
-suites-three, suites-seven, suites-spread, suites-runs, suites-mixed.";
+suites-three, suites-five, suites-seven, suites-spread, suites-runs, suites-mixed.";
 const ROUNDS: usize = 301;
 const CALLS: usize = 3_000;
 const REPLAYS: usize = 10;

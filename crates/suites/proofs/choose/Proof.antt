@@ -1,7 +1,9 @@
 -- `suites::choose` meets its contract.
 use mathlib.Core.Path.{_≡_, ap, sym, _∙_}
 use mathlib.Core.Bool.{Bool}
+use mathlib.Core.List.{List}
 use mathlib.Core.Logic.{⊎-elim}
+use Prim.Native.Nat.{ℕ}
 use borrow.Author.Needs.{needs}
 use Rattle.suites.specs.Answer.{Found, chosen}
 use Rattle.suites.specs.Choice.{choice, firstFound}
@@ -19,22 +21,34 @@ use Rattle.suites.proofs.choose.Tie as tie
 abbrev Known : Type 0
 Known = lts.At-match-came (any-too-long.Asked, any-too-long.Learnt, first-pair.Asked, first-pair.Learnt, first-common.Asked, first-common.Learnt) reads.Pre reads.Post
 
-abbrev isFound : Common → Bool
-isFound common = foundOf common .found
+abbrev ourVerifiers : Known → List ℕ
+ourVerifiers k = k .before .before .before .before .before .before .before .before .args .our-verifiers .now
 
-verifier-found : (k : Known) → foundOf (k .match .verifier) ≡ firstFound (k .before .before .before .before .before .before .before .before .args .our-verifiers .now) (k .before .before .before .before .before .before .before .before .args .peer-provers .now)
+abbrev peerProvers : Known → List ℕ
+peerProvers k = k .before .before .before .before .before .before .before .before .args .peer-provers .now
+
+abbrev peerVerifiers : Known → List ℕ
+peerVerifiers k = k .before .before .before .before .before .before .before .before .args .peer-verifiers .now
+
+abbrev ourProvers : Known → List ℕ
+ourProvers k = k .before .before .before .before .before .before .before .before .args .our-provers .now
+
+abbrev isSuite : Common → Bool
+isSuite common = foundOf common .found
+
+verifier-found : (k : Known) → foundOf (k .match .verifier) ≡ firstFound (ourVerifiers k) (peerProvers k)
 verifier-found k =
     ⊎-elim
     (λ w. ap foundOf (w .6 ∙ sym (w .4 .given .1)) ∙ w .2 .ensures)
     (⊎-elim
     (λ w. ap foundOf (w .5 ∙ w .1 .given .1 ∙ sym (w .4 .given .1)) ∙ w .2 .ensures)
-    (λ w. ap foundOf (w .2) ∙ k .before .first-pair .ensures (ap isFound (w .1 .given .1))))
+    (λ w. ap foundOf (w .2) ∙ k .before .first-pair .ensures (ap isSuite (w .1 .given .1))))
     (k .match .came)
 
 answered :
     (k : Known) (prover : Found) →
-    prover ≡ firstFound (k .before .before .before .before .before .before .before .before .args .peer-verifiers .now) (k .before .before .before .before .before .before .before .before .args .our-provers .now) →
-    chosen (foundOf (k .match .verifier)) prover ≡ choice (k .before .before .before .before .before .before .before .before .args .our-verifiers .now) (k .before .before .before .before .before .before .before .before .args .peer-provers .now) (k .before .before .before .before .before .before .before .before .args .peer-verifiers .now) (k .before .before .before .before .before .before .before .before .args .our-provers .now)
+    prover ≡ firstFound (peerVerifiers k) (ourProvers k) →
+    chosen (foundOf (k .match .verifier)) prover ≡ choice (ourVerifiers k) (peerProvers k) (peerVerifiers k) (ourProvers k)
 unfolding choice
 answered k prover e = rw (sym (k .before .before .before .any-too-long .ensures) ∙ k .before .before .if1 .left, verifier-found k, e)
 
@@ -50,7 +64,7 @@ returns-3 c =
     answered (c .before .before .before .before .before .before) _ (ap foundOf (c .before .before .before .enum-told4 .given .1 ∙ sym (c .enum-told5 .given .1)) ∙ c .before .before .first-common2 .ensures)
 
 returns-4 : tie.Need-returns-4
-returns-4 c = answered (c .before .before .before) _ (c .before .before .first-pair2 .ensures (ap isFound (c .enum-told6 .given .1)))
+returns-4 c = answered (c .before .before .before) _ (c .before .before .first-pair2 .ensures (ap isSuite (c .enum-told6 .given .1)))
 
 pub choose-spec : {M : Type 1} → statement M
 choose-spec =

@@ -4,9 +4,9 @@ use menhotrac::raw::Lists;
 use menhotrac::MAX_LIST_LEN;
 use model::random::Random;
 
-/// Calls of a mix: few enough for their lists to stay in the cache.
+/// Calls of a mix: few enough for their lists to stay in the second-level cache.
 const CALLS: usize = 300;
-/// How many suites a list with repeats is drawn from.
+/// The most suites that a list with repeats has.
 const REPEATED: usize = 4;
 /// The most entries of a short list.
 const SHORT: u32 = 3;
@@ -158,6 +158,7 @@ pub fn all() -> Vec<Mix> {
         mix_of_pairs("suites-one", |random| any_pair(random, 1, 1)),
         mix_of_pairs("suites-two", |random| any_pair(random, 2, 2)),
         mix_of_pairs("suites-three", |random| any_pair(random, 3, 3)),
+        mix_of_pairs("suites-five", |random| any_pair(random, 5, 5)),
         mix_of_pairs("suites-seven", |random| any_pair(random, 7, 7)),
         mix_of_repeats("suites-spread", |place| place % REPEATED),
         mix_of_repeats("suites-runs", |place| place * REPEATED / MAX_LIST_LEN),
@@ -253,7 +254,7 @@ mod tests {
 
     #[test]
     fn lists_of_one_length_have_all_outcomes() {
-        for (name, len) in [("one", 1), ("two", 2), ("three", 3), ("seven", 7)] {
+        for (name, len) in [("one", 1), ("two", 2), ("three", 3), ("five", 5), ("seven", 7)] {
             let mix = of(&format!("suites-{name}"));
             let form = |pair: &Pair| (pair.verifiers.len(), pair.provers.len(), common(pair));
             let forms: BTreeSet<_> = pairs(&mix).map(form).collect();

@@ -5,15 +5,14 @@ use mathlib.Core.Logic.{⊎-elim}
 use Prim.Native.Nat.{_+_, _-_, _≤_}
 use native.Mathlib.Omega.{arith}
 use borrow.Author.Needs.{needs}
-use borrow.Author.Tests.{eq-eqb, ne-eqb}
 use lib.Dec.{eqb}
 use lib.ListN.{length, getD, drop}
 use Rattle.suites.specs.Answer.{Found}
 use Rattle.suites.specs.Choice.{firstFound, foundIn}
 use Rattle.suites.specs.declared.Common.the-variants.{Nothing}
 use Rattle.suites.specs.Numbers.{foundOf}
-use Rattle.suites.proofs.Tests.{Within, within}
-use Rattle.suites.proofs.Found.{here, later, at-end, left, hit, past, tail-found, few}
+use Rattle.suites.proofs.Within.{Within, within}
+use Rattle.suites.proofs.Found.{here, later, at-end, left, hit, past, few, Apart, apart-next, apart-all, either-found}
 use Rattle.suites.proofs.search.first_common.Statement.{statement}
 use Rattle.suites.proofs.search.first_common.Tie as tie
 
@@ -28,11 +27,11 @@ abbrev μ-loop : tie.MeasureT-loop
 μ-loop verifiers provers common₀ count i suite j₀ i-end common j = count - j
 
 abbrev Inv-loop2 : tie.InvT-loop2
-Inv-loop2 verifiers provers common₀ count i suite j₀ i-end common j =
-    (foundIn provers suite ≡ left (eqb suite) provers j) × (common ≡ Nothing)
+Inv-loop2 verifiers provers common₀ count i suite j₀ i-end j-end common j =
+    Apart (eqb suite) provers j × (common ≡ Nothing)
 
 abbrev μ-loop2 : tie.MeasureT-loop2
-μ-loop2 verifiers provers common₀ count i suite j₀ i-end common j = count - j
+μ-loop2 verifiers provers common₀ count i suite j₀ i-end j-end common j = j-end - j
 
 abbrev Inv-search : tie.InvT-search
 Inv-search verifiers provers common₀ count i₀ i-end common i =
@@ -42,22 +41,22 @@ abbrev μ-search : tie.MeasureT-search
 μ-search verifiers provers common₀ count i₀ i-end common i = i-end - i
 
 shared-slice-read-one-of-two : tie.Need-shared-slice-read-one-of-two Inv-loop μ-loop Inv-loop2 μ-loop2 Inv-search μ-search
-shared-slice-read-one-of-two c = search (needs, within 1 3 (length (c .before .before .before .before .before .before .before .args .provers .now)) (c .before .if1 .taken))
+shared-slice-read-one-of-two c = search (needs, within _ _ (length (c .before .before .before .before .before .before .before .args .provers .now)) (c .before .if1 .taken))
 
 shared-slice-read-one-of-two-2 : tie.Need-shared-slice-read-one-of-two-2 Inv-loop μ-loop Inv-loop2 μ-loop2 Inv-search μ-search
-shared-slice-read-one-of-two-2 c = search (needs, within 1 3 (length (c .before .before .before .before .before .before .before .before .args .provers .now)) (c .before .before .if1 .taken))
+shared-slice-read-one-of-two-2 c = search (needs, within _ _ (length (c .before .before .before .before .before .before .before .before .args .provers .now)) (c .before .before .if1 .taken))
 
 sub-if2 : tie.Need-sub-if2 Inv-loop μ-loop Inv-loop2 μ-loop2 Inv-search μ-search
-sub-if2 c = search (needs, within 1 3 (length (c .before .before .before .before .before .before .before .before .before .args .provers .now)) (c .before .before .before .if1 .taken))
+sub-if2 c = search (needs, within _ _ (length (c .before .before .before .before .before .before .before .before .before .args .provers .now)) (c .before .before .before .if1 .taken))
 
 shared-slice-read-if2 : tie.Need-shared-slice-read-if2 Inv-loop μ-loop Inv-loop2 μ-loop2 Inv-search μ-search
-shared-slice-read-if2 c = search (needs, within 1 3 (length (c .before .before .before .before .before .before .before .before .before .before .args .provers .now)) (c .before .before .before .before .if1 .taken))
+shared-slice-read-if2 c = search (needs, within _ _ (length (c .before .before .before .before .before .before .before .before .before .before .args .provers .now)) (c .before .before .before .before .if1 .taken))
 
 loop-holds : tie.Need-loop-holds Inv-loop μ-loop Inv-loop2 μ-loop2 Inv-search μ-search
 loop-holds c =
     let o = c .before .before .before .before .search in
-    let b = within 8 16 (length (c .before .before .before .before .before .before .before .args .provers .now)) (c .if3 .taken) in
-    (refl, o .inv .1, b .0, b)
+    let b = within _ _ (length (c .before .before .before .before .before .before .before .args .provers .now)) (c .if3 .taken) in
+    (refl, o .inv .1, omega (arith, b .0), (omega (arith, b .0), omega (arith, b .1)))
 
 loop-again : tie.Need-loop-again Inv-loop μ-loop Inv-loop2 μ-loop2 Inv-search μ-search
 loop-again c =
@@ -65,10 +64,13 @@ loop-again c =
     let t = rw (c .before .before .one-of-two5 .ensures, c .before .before .before .before .before .one-of-two4 .ensures, c .before .before .before .before .before .before .before .before .one-of-two3 .ensures, c .before .before .before .before .before .before .before .before .before .before .before .one-of-two2 .ensures) at (c .before .if4 .left) in
     (past _ _ (l .j) (l .inv .2) (length (c .before .before .before .before .before .before .before .before .before .before .before .before .before .before .before .before .before .before .before .before .before .before .args .provers .now) - 8) (omega (arith, l .inv .3)) t (l .inv .0), l .inv .1, omega (arith, l .inv .3), l .inv .3)
 
+loop2-holds : tie.Need-loop2-holds Inv-loop μ-loop Inv-loop2 μ-loop2 Inv-search μ-search
+loop2-holds c = (λ k h. absurd (omega (arith, h)), c .before .before .before .before .search .inv .1)
+
 loop2-again : tie.Need-loop2-again Inv-loop μ-loop Inv-loop2 μ-loop2 Inv-search μ-search
 loop2-again c =
-    let l = c .before .before .before .loop2 in
-    (l .inv .0 ∙ ap isFound (later _ _ (l .j) (search needs) (ne-eqb _ _ (c .if6 .left))), l .inv .1)
+    let l = c .before .before .before .before .before .loop2 in
+    (apart-next (eqb (getD (c .before .before .before .before .before .before .before .before .before .before .before .before .before .args .verifiers .now) (c .before .before .before .before .before .before .before .before .before .before .search .i) 0)) (c .before .before .before .before .before .before .before .before .before .before .before .before .before .args .provers .now) (l .j) (l .inv .0) (sym (c .before .one-of-two6 .ensures) ∙ c .if6 .left), l .inv .1)
 
 search-again : tie.Need-search-again Inv-loop μ-loop Inv-loop2 μ-loop2 Inv-search μ-search
 search-again c =
@@ -77,8 +79,8 @@ search-again c =
     let missed : (foundIn provers (getD (c .before .before .before .before .before .before .args .verifiers .now) (o .i) 0) ≡ false) × (c .if1 .common ≡ Nothing) =
     ⊎-elim
     (λ w.
-    let b = within 1 3 (length provers) (w .0 .taken) in
-    (few _ _ (b .0) (b .1) ∙ rw (w .3 .ensures) at (w .5 .left), w .6 ∙ o .inv .1))
+    let b = within _ _ (length provers) (w .0 .taken) in
+    (few _ _ (omega (arith, b .0)) (omega (arith, b .1)) ∙ rw (w .3 .ensures) at (w .5 .left), w .6 ∙ o .inv .1))
     (⊎-elim
     (λ w.
     let l = w .2 in
@@ -86,7 +88,7 @@ search-again c =
       past _ _ (l .j) (l .inv .2) (length provers) (omega (arith, l .inv .3, w .16 .taken)) t (l .inv .0) ∙ ap isFound (at-end _ _ (length provers) (omega arith)),
       w .17 ∙ l .inv .1,
     ))
-    (λ w. (w .2 .inv .0 ∙ ap isFound (at-end _ _ (w .2 .j) (w .3 .left)), w .4 ∙ w .2 .inv .1)))
+    (λ w. (apart-all _ _ (w .2 .j) (omega (arith, w .3 .left)) (w .2 .inv .0), w .4 ∙ w .2 .inv .1)))
     (c .if1 .came) in
     (o .inv .0 ∙ later _ _ (o .i) (search needs) (missed .0), missed .1)
 
@@ -98,9 +100,9 @@ returns c =
 returns-2 : tie.Need-returns-2 Inv-loop μ-loop Inv-loop2 μ-loop2 Inv-search μ-search
 returns-2 c =
     let o = c .before .before .before .before .before .before .before .before .search in
-    let b = within 1 3 (length (c .before .before .before .before .before .before .before .before .before .before .before .args .provers .now)) (c .before .before .before .before .before .if1 .taken) in
+    let b = within _ _ (length (c .before .before .before .before .before .before .before .before .before .before .before .args .provers .now)) (c .before .before .before .before .before .if1 .taken) in
     let t = rw (c .before .before .one-of-two .ensures) at (c .if2 .taken) in
-    sym (o .inv .0 ∙ here _ _ (o .i) (search needs) (few _ _ (b .0) (b .1) ∙ t))
+    sym (o .inv .0 ∙ here _ _ (o .i) (search needs) (few _ _ (omega (arith, b .0)) (omega (arith, b .1)) ∙ t))
 
 returns-3 : tie.Need-returns-3 Inv-loop μ-loop Inv-loop2 μ-loop2 Inv-search μ-search
 returns-3 c =
@@ -111,9 +113,9 @@ returns-3 c =
 
 returns-4 : tie.Need-returns-4 Inv-loop μ-loop Inv-loop2 μ-loop2 Inv-search μ-search
 returns-4 c =
-    let l = c .before .before .before .loop2 in
-    let o = c .before .before .before .before .before .before .before .before .search in
-    sym (o .inv .0 ∙ here _ _ (o .i) (search needs) (tail-found _ _ (l .j) (ap isFound (here _ _ (l .j) (search needs) (eq-eqb _ _ (c .if6 .taken))))))
+    let l = c .before .before .before .before .before .loop2 in
+    let o = c .before .before .before .before .before .before .before .before .before .before .search in
+    sym (o .inv .0 ∙ here _ _ (o .i) (search needs) (either-found _ _ (l .j) _ (search needs) (search needs) (sym (c .before .one-of-two6 .ensures) ∙ c .if6 .taken)))
 
 pub first-common-spec : {M : Type 1} → statement M
 first-common-spec =
@@ -168,8 +170,14 @@ first-common-spec =
     (λ c. search needs)
     loop-again
     (λ c. search needs)
+    loop2-holds
     (λ c. search needs)
     (λ c. search needs)
+    (λ c. search needs)
+    (λ c. search needs)
+    (λ c. search needs)
+    (λ c. search needs)
+    (λ c κs. search needs)
     (λ c. search needs)
     (λ c. search needs)
     loop2-again

@@ -1,9 +1,9 @@
 -- `suites::search::first_pair` meets its contract.
-use mathlib.Core.Path.{_≡_, sym, ap}
+use mathlib.Core.Path.{sym, ap}
 use borrow.Author.Needs.{needs}
 use borrow.Author.Tests.{eq-eqb}
 use Rattle.suites.specs.Answer.{Found}
-use Rattle.suites.proofs.Tests.{never}
+use mathlib.Core.Bool.{false≢true}
 use Rattle.suites.proofs.Found.{here}
 use Rattle.suites.proofs.search.first_pair.Statement.{statement}
 use Rattle.suites.proofs.search.first_pair.Tie as tie
@@ -15,10 +15,10 @@ pub first-pair-spec : {M : Type 1} → statement M
 first-pair-spec =
     tie.close
     (tie.spec
-    (λ c e. never e)
-    (λ c e. never e)
+    (λ c e. absurd (false≢true e))
+    (λ c e. absurd (false≢true e))
     (λ c. search needs)
     (λ c. search needs)
     (λ c. search needs)
     returns-3
-    (λ c e. never e))
+    (λ c e. absurd (false≢true e)))
