@@ -254,7 +254,13 @@ mod tests {
 
     #[test]
     fn lists_of_one_length_have_all_outcomes() {
-        for (name, len) in [("one", 1), ("two", 2), ("three", 3), ("five", 5), ("seven", 7)] {
+        for (name, len) in [
+            ("one", 1),
+            ("two", 2),
+            ("three", 3),
+            ("five", 5),
+            ("seven", 7),
+        ] {
             let mix = of(&format!("suites-{name}"));
             let form = |pair: &Pair| (pair.verifiers.len(), pair.provers.len(), common(pair));
             let forms: BTreeSet<_> = pairs(&mix).map(form).collect();
