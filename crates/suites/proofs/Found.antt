@@ -62,10 +62,10 @@ module _ (passes : ℕ → Bool) where
         ∙ sym (or-assoc b (test i || test j) (left list k))
 
     -- The test of a group of eight, as the search makes it.
-    abbrev pub eightFound : ℕ → Bool
+    abbrev eightFound : ℕ → Bool
     eightFound i = test i || test (i + 1) || (test (i + 2) || test (i + 3)) || (test (i + 4) || test (i + 5)) || (test (i + 6) || test (i + 7))
 
-    pub eight : (i : ℕ) → i + 8 ≤ length list → left list i ≡ eightFound i || left list (i + 8)
+    eight : (i : ℕ) → i + 8 ≤ length list → left list i ≡ eightFound i || left list (i + 8)
     eight i h =
         let first = test i || test (i + 1) in
         let second = first || (test (i + 2) || test (i + 3)) in
@@ -75,14 +75,14 @@ module _ (passes : ℕ → Bool) where
         ∙ two second (i + 4) (i + 5) (i + 6) (omega arith) (omega arith) (omega arith)
         ∙ two third (i + 6) (i + 7) (i + 8) (omega arith) (omega arith) h
 
-  pub tail-found : (list : List ℕ) (n : ℕ) → left list n ≡ true → left list 0 ≡ true
+  tail-found : (list : List ℕ) (n : ℕ) → left list n ≡ true → left list 0 ≡ true
   unfolding find
   tail-found list zero h = h
   tail-found [] (suc n) h = h
   tail-found (entry ∷ list) (suc n) h =
       cond-found (passes entry) entry (find passes list) ∙ ap (λ (b : Bool). passes entry || b) (tail-found list n h) ∙ or-true (passes entry)
 
-  pub between : (list : List ℕ) (m n : ℕ) → left list 0 ≡ left list (m + n) → left list 0 ≡ left list m
+  between : (list : List ℕ) (m n : ℕ) → left list 0 ≡ left list (m + n) → left list 0 ≡ left list m
   between list m n e =
       squeeze _ _ _ e (λ t. tail-found (drop m list) n (ap (λ (l : List ℕ). find passes l .found) (drop-drop n m list) ∙ t)) (tail-found list m)
 

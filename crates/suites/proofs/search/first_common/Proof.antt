@@ -72,6 +72,7 @@ loop2-again c =
     let l = c .before .before .before .before .before .loop2 in
     (apart-next (eqb (getD (c .before .before .before .before .before .before .before .before .before .before .before .before .before .args .verifiers .now) (c .before .before .before .before .before .before .before .before .before .before .search .i) 0)) (c .before .before .before .before .before .before .before .before .before .before .before .before .before .args .provers .now) (l .j) (l .inv .0) (sym (c .before .one-of-two6 .ensures) ∙ c .if6 .left), l .inv .1)
 
+-- The three ways to compare a suite with the provers meet here: up to three of them, groups, and from both ends.
 search-again : tie.Need-search-again Inv-loop μ-loop Inv-loop2 μ-loop2 Inv-search μ-search
 search-again c =
     let o = c .before .before .before .search in
