@@ -1,4 +1,4 @@
--- What is left of a list finds: from one entry to the next, in a group of eight, at the places of a list of three.
+-- What the rest of a list finds: entry by entry, past a group of eight, from both ends, and in a list of one to three.
 use mathlib.Core.Path.{_≡_, refl, sym, ap, subst, _∙_}
 use mathlib.Core.Bool.{Bool, true, false, cond, _||_, or-true, or-assoc}
 use mathlib.Core.List.{List, [], _∷_}
@@ -23,7 +23,7 @@ either : (a b : Bool) → a || b ≡ true → (a ≡ true) ⊎ (b ≡ true)
 either true b e = inl refl
 either false b e = inr e
 
--- Between two that are equal, where each is true if the next is.
+-- If `a` is `c`, and `c` implies `b`, and `b` implies `a`, then `a` is `b`.
 squeeze : (a b c : Bool) → a ≡ c → (c ≡ true → b ≡ true) → (b ≡ true → a ≡ true) → a ≡ b
 squeeze true b c e up down = sym (up (sym e))
 squeeze false false c e up down = refl
@@ -90,7 +90,7 @@ module _ (passes : ℕ → Bool) where
     pub hit : eightFound list i ≡ true → left list 0 ≡ true
     hit t = tail-found list i (eight list i h ∙ rw (t))
 
-    -- What was found before a group that finds nothing is found as far as the group reaches.
+    -- If the eight entries from `i` on do not pass, what is left from any `m` up to `i + 8` finds just if the whole list does.
     pub past : (m : ℕ) → m ≤ i + 8 → eightFound list i ≡ false → left list 0 ≡ left list i → left list 0 ≡ left list m
     past m most t e =
         let all : i + 8 ≡ m + (i + 8 - m) = omega (arith, most) in
@@ -102,7 +102,7 @@ module _ (passes : ℕ → Bool) where
   none-found (entry ∷ list) none =
       cond-found (passes entry) entry (find passes list) ∙ rw (none 0 (omega arith), none-found list (λ i h. none (suc i) (omega (arith, h))))
 
-  -- The first and the last entries, as many of each, do not pass.
+  -- The first `n` entries and the last `n` do not pass.
   abbrev pub Apart : List ℕ → ℕ → Type 0
   Apart list n = (k : ℕ) → k < n → (passes (getD list k 0) ≡ false) × (passes (getD list (length list - 1 - k) 0) ≡ false)
 
@@ -138,7 +138,7 @@ module _ (passes : ℕ → Bool) where
       left list 0 ≡ true
   either-found list i k h m t = ⊎-elim (found-at list i h) (found-at list k m) (either (passes (getD list i 0)) (passes (getD list k 0)) t)
 
-  -- Up to three entries stand at the start, in the middle and at the end.
+  -- One to three entries are those at the start, in the middle and at the end.
   pub few :
       (list : List ℕ) →
       1 ≤ length list →

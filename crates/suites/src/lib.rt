@@ -24,9 +24,9 @@ pub enum Choice {
 }
 
 // Chooses the suite that our verifier and the peer's prover run, and the suite that the peer's
-// verifier and our prover run. In each pair the verifier's order decides. The first entries are compared before the search,
-// so that no call is made where both ends prefer the same suite. What was searched is opened and its suite put into a new
-// value: a copy of the whole enum, which was written in two parts, is slower.
+// verifier and our prover run. In each pair the verifier's order decides. The first entries are compared before the
+// search, so that no call is made where both ends prefer the same suite. The suite that the search found is taken out
+// and put into a new value: copying the enum, which was written in two parts, is slower.
 pub fn choose(
     our_verifiers: &[u32],
     peer_provers: &[u32],

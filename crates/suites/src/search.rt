@@ -22,9 +22,9 @@ pub(crate) fn first_pair(verifiers: &[u32], provers: &[u32]) -> Common
     Common::Nothing
 }
 
-// The first entry of `verifiers` found anywhere in `provers`. One to three provers are those at 0, count / 2 and count - 1;
-// eight to sixteen are the first eight and the last eight. These are compared without a branch between them, which the
-// compiler turns into vector instructions where it can. Provers in any other number are gone through from both ends.
+// The first entry of `verifiers` found anywhere in `provers`. One to three provers are those at 0, count / 2 and
+// count - 1. Eight to sixteen are the first eight and the last eight; eight are compared without a branch between
+// them, and the compiler makes vector instructions of it where it can. Any other number is gone through from both ends.
 pub(crate) fn first_common(verifiers: &[u32], provers: &[u32]) -> Common
     ensures { λ r. ⌜ foundOf r ≡ firstFound (now (verifiers .entry)) (now (provers .entry)) ⌝ }
 {

@@ -1,4 +1,4 @@
-//! The lists that suites are chosen from. Those of a mix have the same form and different suites.
+//! The lists that suites are chosen from: for each mix calls of the form that its name says, each with suites of its own.
 
 use menhotrac::raw::Lists;
 use menhotrac::MAX_LIST_LEN;

@@ -35,8 +35,8 @@ trait Search {
 /// The search that the archive had before request #103. It is kept for this benchmark alone, so that the archive can be
 /// measured beside it in one run.
 ///
-/// Indices are counted by hand, and what was found is kept in one number, because this gives the machine's loops
-/// that the archive had.
+/// Indices are counted by hand, and what was found is kept in one number, because the compiler then makes the
+/// loops that it made for the archive.
 struct Former;
 
 impl Former {

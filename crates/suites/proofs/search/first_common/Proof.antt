@@ -1,4 +1,5 @@
--- `suites::search::first_common` meets its contract. What is left of each list finds what the whole list finds.
+-- `suites::search::first_common` meets its contract. What is left of the verifiers finds what all find. What is left of
+-- the provers has the suite just if all have it, or those passed from both ends do not have it.
 use mathlib.Core.Path.{_≡_, refl, ap, sym, _∙_}
 use mathlib.Core.Bool.{Bool, false}
 use mathlib.Core.Logic.{⊎-elim}
@@ -72,7 +73,7 @@ loop2-again c =
     let l = c .before .before .before .before .before .loop2 in
     (apart-next (eqb (getD (c .before .before .before .before .before .before .before .before .before .before .before .before .before .args .verifiers .now) (c .before .before .before .before .before .before .before .before .before .before .search .i) 0)) (c .before .before .before .before .before .before .before .before .before .before .before .before .before .args .provers .now) (l .j) (l .inv .0) (sym (c .before .one-of-two6 .ensures) ∙ c .if6 .left), l .inv .1)
 
--- The three ways to compare a suite with the provers meet here: up to three of them, groups, and from both ends.
+-- The three ways to compare a suite with the provers meet here: one to three of them, groups of eight, and from both ends.
 search-again : tie.Need-search-again Inv-loop μ-loop Inv-loop2 μ-loop2 Inv-search μ-search
 search-again c =
     let o = c .before .before .before .search in
