@@ -127,7 +127,7 @@ module _ (passes : ℕ → Bool) where
           let back : length list - 1 - m ≡ i = omega (arith, h) in
           ap (λ (k : ℕ). passes (getD list k 0)) (sym back) ∙ apart m (omega (arith, h, enough, ltb-false i n e)) .1
 
-  found-at : (list : List ℕ) (i : ℕ) → i < length list → passes (getD list i 0) ≡ true → left list 0 ≡ true
+  pub found-at : (list : List ℕ) (i : ℕ) → i < length list → passes (getD list i 0) ≡ true → left list 0 ≡ true
   found-at list i h t = tail-found list i (ap (λ (f : Found). f .found) (here list i h t))
 
   pub either-found :
