@@ -1,4 +1,3 @@
 pub mod Within
 pub mod Found
-pub mod Longest
 pub mod Numbers

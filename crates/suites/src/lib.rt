@@ -1,6 +1,5 @@
 // The choice of attestation suites, made once when a connection opens.
 ghost use mathlib.Core.Path.{_≡_};
-ghost use Prim.Native.Nat.{max};
 ghost use Rattle.suites.specs.Choice.{anyTooLong, choice};
 ghost use Rattle.suites.specs.Numbers.{answerOf};
 
@@ -25,8 +24,7 @@ pub enum Choice {
 
 // Chooses the suite that our verifier and the peer's prover run, and the suite that the peer's
 // verifier and our prover run. In each pair the verifier's order decides. The first entries are compared before the
-// search, so that no call is made where both ends prefer the same suite. The suite that the search found is taken out
-// and put into a new value: copying the enum, which was written in two parts, is slower.
+// search, so that no call is made where both ends prefer the same suite.
 pub fn choose(
     our_verifiers: &[u32],
     peer_provers: &[u32],
@@ -40,23 +38,22 @@ pub fn choose(
     }
     let mut verifier = first_pair(our_verifiers, peer_provers);
     if let Common::Nothing = verifier {
-        let searched = first_common(our_verifiers, peer_provers);
-        if let Common::Suite(suite) = searched {
-            verifier = Common::Suite(suite);
+        let place = first_common(our_verifiers, peer_provers);
+        if place < our_verifiers.len() {
+            verifier = Common::Suite(our_verifiers[place]);
         }
     }
     let mut prover = first_pair(peer_verifiers, our_provers);
     if let Common::Nothing = prover {
-        let searched = first_common(peer_verifiers, our_provers);
-        if let Common::Suite(suite) = searched {
-            prover = Common::Suite(suite);
+        let place = first_common(peer_verifiers, our_provers);
+        if place < peer_verifiers.len() {
+            prover = Common::Suite(peer_verifiers[place]);
         }
     }
     Choice::Chosen { verifier, prover }
 }
 
-// Whether a list has more than 16 entries, which is the fault of refusal 6. Only the greatest length is compared with
-// the limit: four tests would make `choose` too large to be compiled into its callers.
+// Whether a list has more than 16 entries, which is the fault of refusal 6.
 pub fn any_too_long(
     our_verifiers: &[u32],
     peer_provers: &[u32],
@@ -65,17 +62,8 @@ pub fn any_too_long(
 ) -> bool
     ensures { λ r. ⌜ r ≡ anyTooLong (now («our_verifiers» .entry)) (now («peer_provers» .entry)) (now («peer_verifiers» .entry)) (now («our_provers» .entry)) ⌝ }
 {
-    let first = longer(our_verifiers.len(), peer_provers.len());
-    let second = longer(peer_verifiers.len(), our_provers.len());
-    longer(first, second) > MAX_ENTRIES
-}
-
-// The greater of two lengths.
-fn longer(a: usize, b: usize) -> usize
-    ensures { λ r. ⌜ r ≡ max a b ⌝ }
-{
-    if a > b {
-        return a;
-    }
-    b
+    (our_verifiers.len() > MAX_ENTRIES)
+        | (peer_provers.len() > MAX_ENTRIES)
+        | (peer_verifiers.len() > MAX_ENTRIES)
+        | (our_provers.len() > MAX_ENTRIES)
 }

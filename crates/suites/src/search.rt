@@ -1,7 +1,9 @@
 // The search for the first suite that two lists have in common.
 ghost use mathlib.Core.Path.{_≡_};
-ghost use mathlib.Core.Bool.{true, _||_};
-ghost use lib.Dec.{eqb};
+ghost use mathlib.Core.Bool.{true, cond, _||_};
+ghost use lib.Dec.{eqb, ltb};
+ghost use lib.ListN.{length, getD};
+ghost use Rattle.suites.specs.Answer.{foundSuite, notFound};
 ghost use Rattle.suites.specs.Choice.{firstFound};
 ghost use Rattle.suites.specs.Numbers.{foundOf};
 use crate::Common;
@@ -22,19 +24,19 @@ pub(crate) fn first_pair(verifiers: &[u32], provers: &[u32]) -> Common
     Common::Nothing
 }
 
-// The first entry of `verifiers` found anywhere in `provers`. One to three provers are those at 0, count / 2 and
-// count - 1. Eight to sixteen are the first eight and the last eight; eight are compared without a branch between
-// them, and the compiler makes vector instructions of it where it can. Any other number is gone through from both ends.
-pub(crate) fn first_common(verifiers: &[u32], provers: &[u32]) -> Common
-    ensures { λ r. ⌜ foundOf r ≡ firstFound (now (verifiers .entry)) (now (provers .entry)) ⌝ }
+// The place of the first entry of `verifiers` found anywhere in `provers`; if none is, their number. A place is returned
+// in a register, a `Common` through memory. One to three provers are those at 0, count / 2 and count - 1. Eight to sixteen
+// are the first eight and the last eight; eight are compared without a branch between them, and the compiler makes vector
+// instructions of it where it can. Any other number is gone through from both ends.
+pub(crate) fn first_common(verifiers: &[u32], provers: &[u32]) -> usize
+    ensures { λ r. ⌜ cond (ltb r (length (now (verifiers .entry)))) (foundSuite (getD (now (verifiers .entry)) r 0)) notFound ≡ firstFound (now (verifiers .entry)) (now (provers .entry)) ⌝ }
 {
-    let mut common = Common::Nothing;
     let count = provers.len();
-    'search: for i in 0..verifiers.len() {
+    let mut i = 0;
+    'search: while i < verifiers.len() {
         let suite = verifiers[i];
         if (1 <= count) & (count <= 3) {
             if one_of_two(suite, provers[0], provers[count / 2]) | (suite == provers[count - 1]) {
-                common = Common::Suite(suite);
                 break 'search;
             }
         } else if (8 <= count) & (count <= 16) {
@@ -45,7 +47,6 @@ pub(crate) fn first_common(verifiers: &[u32], provers: &[u32]) -> Common
                     | one_of_two(suite, provers[j + 4], provers[j + 5])
                     | one_of_two(suite, provers[j + 6], provers[j + 7])
                 {
-                    common = Common::Suite(suite);
                     break 'search;
                 }
                 if j == count - 8 {
@@ -56,13 +57,13 @@ pub(crate) fn first_common(verifiers: &[u32], provers: &[u32]) -> Common
         } else {
             for j in 0..(count + 1) / 2 {
                 if one_of_two(suite, provers[j], provers[count - 1 - j]) {
-                    common = Common::Suite(suite);
                     break 'search;
                 }
             }
         }
+        i += 1;
     }
-    common
+    i
 }
 
 // Whether a suite is one of two. It takes entries, since a list that is handed on goes through memory.
