@@ -1,4 +1,5 @@
--- What the rest of a list finds: entry by entry, past a group of eight, from both ends, and in a list of one to three.
+-- What a list has at a place, and what the rest of it finds: entry by entry, past a group of eight, from both ends, and in
+-- a list of one to three.
 use mathlib.Core.Path.{_≡_, refl, sym, ap, subst, _∙_}
 use mathlib.Core.Bool.{Bool, true, false, cond, _||_, or-true, or-assoc}
 use mathlib.Core.List.{List, [], _∷_}
@@ -8,12 +9,22 @@ use Prim.Native.Nat.{ℕ, zero, suc, _+_, _-_, _/_, _<_, _≤_}
 use native.Mathlib.Nat.{eq-or-lt-of-le}
 use native.Mathlib.Numerals.{add-one}
 use native.Mathlib.Omega.{arith}
-use borrow.Author.Tests.{ltb-true, ltb-false}
+use borrow.Author.Tests.{ltb-true, ltb-false, lt-ltb, le-ltb}
 use lib.Dec.{ltb}
 use lib.ListN.{length, getD, drop, drop-of-length-le}
 use lib.Seq.{drop-cons, drop-drop}
 use Rattle.suites.specs.Answer.{Found, foundSuite, notFound}
 use Rattle.suites.specs.Choice.{find}
+
+-- The entry at a place, if the list is as long; as the promise of `first_common` writes it.
+abbrev pub entryAt : List ℕ → ℕ → Found
+entryAt list place = cond (ltb place (length list)) (foundSuite (getD list place 0)) notFound
+
+pub at-place : (list : List ℕ) (place : ℕ) → place < length list → entryAt list place ≡ foundSuite (getD list place 0)
+at-place list place h = rw (lt-ltb place (length list) h)
+
+pub past-end : (list : List ℕ) (place : ℕ) → length list ≤ place → entryAt list place ≡ notFound
+past-end list place h = rw (le-ltb place (length list) h)
 
 cond-found : (b : Bool) (suite : ℕ) (f : Found) → cond b (foundSuite suite) f .found ≡ b || f .found
 cond-found true suite f = refl
@@ -23,11 +34,11 @@ either : (a b : Bool) → a || b ≡ true → (a ≡ true) ⊎ (b ≡ true)
 either true b e = inl refl
 either false b e = inr e
 
--- If `a` is `c`, and `c` implies `b`, and `b` implies `a`, then `a` is `b`.
-squeeze : (a b c : Bool) → a ≡ c → (c ≡ true → b ≡ true) → (b ≡ true → a ≡ true) → a ≡ b
-squeeze true b c e up down = sym (up (sym e))
-squeeze false false c e up down = refl
-squeeze false true c e up down = down refl
+-- Two truth values of which each is true where the other is are the same.
+same : (a b : Bool) → (a ≡ true → b ≡ true) → (b ≡ true → a ≡ true) → a ≡ b
+same true b there back = sym (there refl)
+same false false there back = refl
+same false true there back = back refl
 
 module _ (passes : ℕ → Bool) where
   pub here : (list : List ℕ) (i : ℕ) → i < length list → passes (getD list i 0) ≡ true → find passes (drop i list) ≡ foundSuite (getD list i 0)
@@ -84,7 +95,7 @@ module _ (passes : ℕ → Bool) where
 
   between : (list : List ℕ) (m n : ℕ) → left list 0 ≡ left list (m + n) → left list 0 ≡ left list m
   between list m n e =
-      squeeze _ _ _ e (λ t. tail-found (drop m list) n (ap (λ (l : List ℕ). find passes l .found) (drop-drop n m list) ∙ t)) (tail-found list m)
+      same _ _ (λ t. tail-found (drop m list) n (ap (λ (l : List ℕ). find passes l .found) (drop-drop n m list) ∙ sym e ∙ t)) (tail-found list m)
 
   module _ (list : List ℕ) (i : ℕ) (h : i + 8 ≤ length list) where
     pub hit : eightFound list i ≡ true → left list 0 ≡ true

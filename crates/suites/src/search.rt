@@ -24,10 +24,10 @@ pub(crate) fn first_pair(verifiers: &[u32], provers: &[u32]) -> Common
     Common::Nothing
 }
 
-// The place of the first entry of `verifiers` found anywhere in `provers`; if none is, their number. A place is returned
-// in a register, a `Common` through memory. One to three provers are those at 0, count / 2 and count - 1. Eight to sixteen
-// are the first eight and the last eight; eight are compared without a branch between them, and the compiler makes vector
-// instructions of it where it can. Any other number is gone through from both ends.
+// The place of the first entry of `verifiers` found anywhere in `provers`, or the number of verifiers if none is found.
+// It is a place since a `Common` is handed back through memory. One to three provers are those at 0, count / 2 and
+// count - 1. Eight to sixteen are the first eight and the last eight; eight are compared without a branch between them,
+// and the compiler makes vector instructions of it where it can. Any other number is gone through from both ends.
 pub(crate) fn first_common(verifiers: &[u32], provers: &[u32]) -> usize
     ensures { λ r. ⌜ cond (ltb r (length (now (verifiers .entry)))) (foundSuite (getD (now (verifiers .entry)) r 0)) notFound ≡ firstFound (now (verifiers .entry)) (now (provers .entry)) ⌝ }
 {

@@ -1,17 +1,15 @@
 -- `suites::choose` meets its contract.
 use mathlib.Core.Path.{_≡_, ap, sym, _∙_}
-use mathlib.Core.Bool.{Bool, cond}
+use mathlib.Core.Bool.{Bool}
 use mathlib.Core.List.{List}
 use mathlib.Core.Logic.{⊎-elim}
-use Prim.Native.Nat.{ℕ, _<_, _≤_}
+use Prim.Native.Nat.{ℕ}
 use borrow.Author.Needs.{needs}
-use borrow.Author.Tests.{lt-ltb, le-ltb}
-use lib.Dec.{ltb}
-use lib.ListN.{length, getD}
-use Rattle.suites.specs.Answer.{Found, foundSuite, notFound, chosen}
+use Rattle.suites.specs.Answer.{Found, chosen}
 use Rattle.suites.specs.Choice.{choice, firstFound}
 use Rattle.suites.specs.Numbers.{foundOf}
 use Rattle.suites.specs.declared.Common.{Common}
+use Rattle.suites.proofs.Found.{at-place, past-end}
 use Rattle.suites.proofs.any_too_long.Reads as any-too-long
 use Rattle.suites.proofs.search.first_pair.Reads as first-pair
 use Rattle.suites.proofs.search.first_common.Reads as first-common
@@ -39,20 +37,12 @@ ourProvers k = k .before .before .before .before .before .before .before .before
 abbrev isSuite : Common → Bool
 isSuite common = foundOf common .found
 
--- What the search answers, once its place is compared with the number of entries.
-module _ (list : List ℕ) (place : ℕ) (f : Found) (e : cond (ltb place (length list)) (foundSuite (getD list place 0)) notFound ≡ f) where
-  at-place : place < length list → foundSuite (getD list place 0) ≡ f
-  at-place h = rw (lt-ltb place (length list) h) at e
-
-  past-end : length list ≤ place → notFound ≡ f
-  past-end h = rw (le-ltb place (length list) h) at e
-
 verifier-found : (k : Known) → foundOf (k .match .verifier) ≡ firstFound (ourVerifiers k) (peerProvers k)
 verifier-found k =
     ⊎-elim
-    (λ w. ap foundOf (w .5) ∙ at-place (ourVerifiers k) (w .2 .result) _ (w .2 .ensures) (w .3 .taken))
+    (λ w. ap foundOf (w .5) ∙ sym (at-place (ourVerifiers k) (w .2 .result) (w .3 .taken)) ∙ w .2 .ensures)
     (⊎-elim
-    (λ w. ap foundOf (w .4 ∙ w .1 .given .1) ∙ past-end (ourVerifiers k) (w .2 .result) _ (w .2 .ensures) (w .3 .left))
+    (λ w. ap foundOf (w .4 ∙ w .1 .given .1) ∙ sym (past-end (ourVerifiers k) (w .2 .result) (w .3 .left)) ∙ w .2 .ensures)
     (λ w. ap foundOf (w .2) ∙ k .before .first-pair .ensures (ap isSuite (w .1 .given .1))))
     (k .match .came)
 
@@ -70,12 +60,12 @@ returns c = rw (sym (c .before .any-too-long .ensures) ∙ c .if1 .taken)
 returns-2 : tie.Need-returns-2
 returns-2 c =
     let k = c .before .before .before .before .before .before in
-    answered k _ (at-place (peerVerifiers k) (c .before .before .first-common2 .result) _ (c .before .before .first-common2 .ensures) (c .before .if3 .taken))
+    answered k _ (sym (at-place (peerVerifiers k) (c .before .before .first-common2 .result) (c .before .if3 .taken)) ∙ c .before .before .first-common2 .ensures)
 
 returns-3 : tie.Need-returns-3
 returns-3 c =
     let k = c .before .before .before .before .before in
-    answered k _ (ap foundOf (c .before .before .enum-told3 .given .1) ∙ past-end (peerVerifiers k) (c .before .first-common2 .result) _ (c .before .first-common2 .ensures) (c .if3 .left))
+    answered k _ (ap foundOf (c .before .before .enum-told3 .given .1) ∙ sym (past-end (peerVerifiers k) (c .before .first-common2 .result) (c .if3 .left)) ∙ c .before .first-common2 .ensures)
 
 returns-4 : tie.Need-returns-4
 returns-4 c = answered (c .before .before .before) _ (c .before .before .first-pair2 .ensures (ap isSuite (c .enum-told4 .given .1)))

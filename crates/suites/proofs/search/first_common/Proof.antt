@@ -1,19 +1,18 @@
 -- `suites::search::first_common` meets its contract. What is left of the verifiers finds what all find. What is left of
 -- the provers has the suite just if all have it, or those passed from both ends do not have it.
 use mathlib.Core.Path.{_≡_, refl, ap, sym, _∙_}
-use mathlib.Core.Bool.{Bool, true, false, cond}
+use mathlib.Core.Bool.{Bool, true, false}
 use mathlib.Core.List.{List}
 use mathlib.Core.Logic.{⊎-elim}
 use Prim.Native.Nat.{ℕ, _+_, _-_, _<_, _≤_}
 use native.Mathlib.Omega.{arith}
 use borrow.Author.Needs.{needs}
-use borrow.Author.Tests.{lt-ltb, le-ltb}
-use lib.Dec.{eqb, ltb}
+use lib.Dec.{eqb}
 use lib.ListN.{length, getD, drop}
-use Rattle.suites.specs.Answer.{Found, foundSuite, notFound}
+use Rattle.suites.specs.Answer.{Found}
 use Rattle.suites.specs.Choice.{firstFound, foundIn}
 use Rattle.suites.proofs.Within.{Within, within}
-use Rattle.suites.proofs.Found.{here, later, at-end, left, hit, past, few, Apart, apart-next, apart-all, either-found}
+use Rattle.suites.proofs.Found.{entryAt, at-place, past-end, here, later, at-end, left, hit, past, few, Apart, apart-next, apart-all, either-found}
 use Rattle.suites.proofs.search.first_common.Statement.{statement}
 use Rattle.suites.proofs.search.first_common.Tie as tie
 
@@ -44,8 +43,8 @@ stopped :
     i < length verifiers →
     firstFound verifiers provers ≡ firstFound (drop i verifiers) provers →
     foundIn provers (getD verifiers i 0) ≡ true →
-    cond (ltb i (length verifiers)) (foundSuite (getD verifiers i 0)) notFound ≡ firstFound verifiers provers
-stopped verifiers provers i h e t = rw (lt-ltb i (length verifiers) h) (sym (e ∙ here _ _ i h t))
+    entryAt verifiers i ≡ firstFound verifiers provers
+stopped verifiers provers i h e t = at-place verifiers i h ∙ sym (e ∙ here _ _ i h t)
 
 shared-slice-read-one-of-two : tie.Need-shared-slice-read-one-of-two Inv-loop μ-loop Inv-loop2 μ-loop2 Inv-search μ-search
 shared-slice-read-one-of-two c = search (needs, within _ _ (length (c .before .before .before .before .before .before .before .args .provers .now)) (c .before .if1 .taken))
@@ -101,7 +100,7 @@ returns : tie.Need-returns Inv-loop μ-loop Inv-loop2 μ-loop2 Inv-search μ-sea
 returns c =
     let o = c .before .search in
     let end = c .search-test .left in
-    rw (le-ltb (o .i) _ end) (sym (o .inv ∙ at-end _ _ (o .i) end))
+    past-end (c .before .before .before .before .args .verifiers .now) (o .i) end ∙ sym (o .inv ∙ at-end _ _ (o .i) end)
 
 returns-2 : tie.Need-returns-2 Inv-loop μ-loop Inv-loop2 μ-loop2 Inv-search μ-search
 returns-2 c =
