@@ -6,7 +6,8 @@ ghost use Rattle.suites.specs.Numbers.{answerOf};
 mod search;
 
 use crate::search::first_common;
-use crate::search::first_pair;
+use crate::search::same_first;
+use crate::search::several;
 
 const MAX_ENTRIES: usize = 16;
 
@@ -22,9 +23,9 @@ pub enum Choice {
     TooLong,
 }
 
-// Chooses the suite that our verifier and the peer's prover run, and the suite that the peer's
-// verifier and our prover run. In each pair the verifier's order decides. The first entries are compared before the
-// search, so that no call is made where both ends prefer the same suite.
+// Chooses the suite that our verifier and the peer's prover run, and the suite that the peer's verifier and our prover
+// run. In each pair the verifier's order decides. The first entries are compared before the search, so that no call is
+// made where both ends prefer the same suite or have one each.
 pub fn choose(
     our_verifiers: &[u32],
     peer_provers: &[u32],
@@ -36,15 +37,19 @@ pub fn choose(
     if any_too_long(our_verifiers, peer_provers, peer_verifiers, our_provers) {
         return Choice::TooLong;
     }
-    let mut verifier = first_pair(our_verifiers, peer_provers);
-    if let Common::Nothing = verifier {
+    let mut verifier = Common::Nothing;
+    if same_first(our_verifiers, peer_provers) {
+        verifier = Common::Suite(our_verifiers[0]);
+    } else if several(our_verifiers, peer_provers) {
         let place = first_common(our_verifiers, peer_provers);
         if place < our_verifiers.len() {
             verifier = Common::Suite(our_verifiers[place]);
         }
     }
-    let mut prover = first_pair(peer_verifiers, our_provers);
-    if let Common::Nothing = prover {
+    let mut prover = Common::Nothing;
+    if same_first(peer_verifiers, our_provers) {
+        prover = Common::Suite(peer_verifiers[0]);
+    } else if several(peer_verifiers, our_provers) {
         let place = first_common(peer_verifiers, our_provers);
         if place < peer_verifiers.len() {
             prover = Common::Suite(peer_verifiers[place]);

@@ -1,27 +1,29 @@
 // The search for the first suite that two lists have in common.
 ghost use mathlib.Core.Path.{_≡_};
-ghost use mathlib.Core.Bool.{true, cond, _||_};
+ghost use mathlib.Core.Bool.{cond, _&&_, _||_};
 ghost use lib.Dec.{eqb, ltb};
 ghost use lib.ListN.{length, getD};
 ghost use Rattle.suites.specs.Answer.{foundSuite, notFound};
 ghost use Rattle.suites.specs.Choice.{firstFound};
-ghost use Rattle.suites.specs.Numbers.{foundOf};
-use crate::Common;
 
-// The first entries of both lists, if they are the same suite, which is then the first in common.
-pub(crate) fn first_pair(verifiers: &[u32], provers: &[u32]) -> Common
-    ensures { λ r. ⌜ (foundOf r .found ≡ true → foundOf r ≡ firstFound (now (verifiers .entry)) (now (provers .entry))) ⌝ }
+// Whether both lists begin with the same suite, which is then the first in common.
+pub(crate) fn same_first(verifiers: &[u32], provers: &[u32]) -> bool
+    ensures { λ r. ⌜ r ≡ ltb 0 (length (now (verifiers .entry))) && ltb 0 (length (now (provers .entry))) && eqb (getD (now (verifiers .entry)) 0 0) (getD (now (provers .entry)) 0 0) ⌝ }
 {
     if verifiers.len() == 0 {
-        return Common::Nothing;
+        return false;
     }
     if provers.len() == 0 {
-        return Common::Nothing;
+        return false;
     }
-    if verifiers[0] == provers[0] {
-        return Common::Suite(verifiers[0]);
-    }
-    Common::Nothing
+    verifiers[0] == provers[0]
+}
+
+// Whether a list has more than one entry. If none has, the first entries are all that there is to compare.
+pub(crate) fn several(verifiers: &[u32], provers: &[u32]) -> bool
+    ensures { λ r. ⌜ r ≡ ltb 1 (length (now (verifiers .entry))) || ltb 1 (length (now (provers .entry))) ⌝ }
+{
+    (verifiers.len() > 1) | (provers.len() > 1)
 }
 
 // The place of the first entry of `verifiers` found anywhere in `provers`, or the number of verifiers if none is found.
