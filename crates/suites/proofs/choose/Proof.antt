@@ -56,16 +56,6 @@ returns : tie.Need-returns
 unfolding choice
 returns c = rw (sym (c .before .any-too-long .ensures) ∙ c .if1 .taken)
 
-first-verifier : tie.Need-shared-slice-read-t12
-first-verifier c =
-    let args = c .before .before .before .before .before .before .before .before .before .args in
-    search (needs, begins (args .our-verifiers .now) (args .peer-provers .now) (sym (c .before .before .same-first .ensures) ∙ c .before .if2 .taken))
-
-first-peer-verifier : tie.Need-shared-slice-read-t21
-first-peer-verifier c =
-    let k = c .before .before .before in
-    search (needs, begins (peerVerifiers k) (ourProvers k) (sym (c .before .before .same-first2 .ensures) ∙ c .before .if5 .taken))
-
 returns-2 : tie.Need-returns-2
 returns-2 c =
     let k = c .before .before .before in
@@ -95,13 +85,17 @@ choose-spec =
     (λ c κs. search needs)
     returns
     (λ c κs. search needs)
-    first-verifier
+    (λ c.
+    let args = c .before .before .before .before .before .before .before .before .before .args in
+    search (needs, begins (args .our-verifiers .now) (args .peer-provers .now) (sym (c .before .before .same-first .ensures) ∙ c .before .if2 .taken)))
     (λ c κs. search needs)
     (λ c κs. search needs)
     (λ c. search needs)
     (λ c. search needs)
     (λ c κs. search needs)
-    first-peer-verifier
+    (λ c.
+    let k = c .before .before .before in
+    search (needs, begins (peerVerifiers k) (ourProvers k) (sym (c .before .before .same-first2 .ensures) ∙ c .before .if5 .taken)))
     (λ c κs. search needs)
     (λ c κs. search needs)
     (λ c. search needs)
