@@ -1,3 +1,5 @@
 pub mod Within
+pub mod Place
 pub mod Found
+pub mod FirstEntries
 pub mod Numbers

@@ -7,7 +7,8 @@ use borrow.Author.Needs.{needs}
 use Rattle.suites.specs.Answer.{Found, chosen}
 use Rattle.suites.specs.Choice.{choice, firstFound}
 use Rattle.suites.specs.Numbers.{foundOf}
-use Rattle.suites.proofs.Found.{at-place, past-end, begins, first-same, first-apart}
+use Rattle.suites.proofs.Place.{at-place, past-end}
+use Rattle.suites.proofs.FirstEntries.{begins, first-same, first-apart}
 use Rattle.suites.proofs.any_too_long.Reads as any-too-long
 use Rattle.suites.proofs.search.same_first.Reads as same-first
 use Rattle.suites.proofs.search.several.Reads as several

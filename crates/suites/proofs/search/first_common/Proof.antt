@@ -11,8 +11,9 @@ use lib.Dec.{eqb}
 use lib.ListN.{length, getD, drop}
 use Rattle.suites.specs.Answer.{Found}
 use Rattle.suites.specs.Choice.{firstFound, foundIn}
+use Rattle.suites.proofs.Place.{entryAt, at-place, past-end}
 use Rattle.suites.proofs.Within.{Within, within}
-use Rattle.suites.proofs.Found.{entryAt, at-place, past-end, here, later, at-end, left, hit, past, few, Apart, apart-next, apart-all, either-found}
+use Rattle.suites.proofs.Found.{here, later, at-end, left, hit, past, few, Apart, apart-next, apart-all, either-found}
 use Rattle.suites.proofs.search.first_common.Statement.{statement}
 use Rattle.suites.proofs.search.first_common.Tie as tie
 
