@@ -141,6 +141,21 @@ pub struct Choice {
     pub prover: u32,
 }
 
+impl Choice {
+    /// The refusal, and the four numbers in the order in which the archive writes them.
+    #[inline]
+    pub fn new(refusal: u32, chosen: [u32; 4]) -> Choice {
+        let [verifier_found, verifier, prover_found, prover] = chosen;
+        Choice {
+            refusal,
+            verifier_found,
+            verifier,
+            prover_found,
+            prover,
+        }
+    }
+}
+
 /// What was read from the peer's bytes. All but the refusal is 0 where they are refused.
 #[repr(C)]
 #[derive(Clone, Copy, Debug, Default, PartialEq, Eq)]
@@ -312,14 +327,7 @@ pub fn choose_suites(lists: &Lists) -> Choice {
             &mut chosen,
         )
     };
-    let [verifier_found, verifier, prover_found, prover] = chosen;
-    Choice {
-        refusal,
-        verifier_found,
-        verifier,
-        prover_found,
-        prover,
-    }
+    Choice::new(refusal, chosen)
 }
 
 /// Reads one message, which has to be all of the bytes. A HELLO's suites are written into the two lists, with zeros

@@ -89,14 +89,7 @@ fn choose_suites<S: Search>(lists: &Lists) -> Choice {
         lists.our_provers,
         &mut chosen,
     );
-    let [verifier_found, verifier, prover_found, prover] = chosen;
-    Choice {
-        refusal,
-        verifier_found,
-        verifier,
-        prover_found,
-        prover,
-    }
+    Choice::new(refusal, chosen)
 }
 
 /// The counterpart of the archive's `menhotrac_choose_suites`. `count` finds it by its name, which is therefore not the
