@@ -49,6 +49,9 @@ static const menhotrac_connection both_run = {
 static const menhotrac_connection expired = {
     .state = MENHOTRAC_STATE_WAIT_FOR_DAT_AND_RA_VERIFIER, .handled = 9, .h = 9
 };
+static const menhotrac_connection expired_at_limit = {
+    .state = MENHOTRAC_STATE_WAIT_FOR_DAT_AND_RA_VERIFIER, .handled = UINT32_MAX, .h = 9
+};
 static const menhotrac_connection ready = {
     .state = MENHOTRAC_STATE_ESTABLISHED, .handled = 9, .dat = 2, .ra = 4
 };
@@ -66,17 +69,28 @@ static const menhotrac_connection locked = {
     .state = MENHOTRAC_STATE_CLOSED_LOCKED, .handled = 9
 };
 
+static const menhotrac_connection *const records[] = {
+    &fresh, &greeted, &greeted_at_limit, &both_run, &expired, &expired_at_limit, &ready,
+    &ready_at_limit, &ready_without_ra, &waiting, &locked
+};
+
 static const uint8_t block[BLOCK] = {10, 20, 30, 40, 50};
 static const uint32_t suite_1[] = {1};
+static const uint32_t suite_2[] = {2};
 static const uint32_t suite_3[] = {3};
 static const uint32_t suites_3_7[] = {3, 7};
 static const uint32_t suites_7_3[] = {7, 3};
+static const uint32_t sixteen[] = {2, 3, 4, 5, 6, 7, 8, 9, 10, 11, 12, 13, 14, 15, 16, 1};
 static const uint32_t seventeen[] = {1, 1, 1, 1, 1, 1, 1, 1, 1, 1, 1, 1, 1, 1, 1, 1, 1};
 
-/* A token with a verdict, at the boot run's time. */
-#define TOKEN(number, verdict_given, expires) \
-    {.code = (number), .verdict = (verdict_given), .expiry = (expires), .now = 1000}
-#define HELLO(verdict_given) TOKEN(MENHOTRAC_EVENT_SC_HELLO, (verdict_given), 1060)
+/* Margins that are refused. */
+static const uint32_t large_margins[] = {MENHOTRAC_MAX_MARGIN + 1, UINT32_MAX};
+
+/* The boot run's token, with a verdict and a margin. */
+#define TOKEN(number, verdict_given, margin_given) \
+    {.code = (number), .verdict = (verdict_given), .margin = (margin_given), \
+     .expiry = 1060, .now = 1000}
+#define HELLO(verdict_given) TOKEN(MENHOTRAC_EVENT_SC_HELLO, (verdict_given), 0)
 
 /* ---- A connection with all that a call writes ---- */
 
@@ -100,6 +114,17 @@ static inline void set_up(struct bench *bench, const menhotrac_connection *conne
 static inline uint32_t step(struct bench *bench, const menhotrac_call *call)
 {
     return menhotrac_call_step(&bench->connection, call, bench->cache, FULL, &bench->actions);
+}
+
+/* Whether guards and cache are those of `expected`, except for what a sent block changes. */
+static inline int kept_around(const struct bench *bench, const struct bench *expected, size_t sent)
+{
+    struct bench merged = *expected;
+
+    merged.connection = bench->connection;
+    merged.actions = bench->actions;
+    memcpy(merged.cache, bench->cache, sent);
+    return memcmp(&merged, bench, sizeof merged) == 0;
 }
 
 #endif

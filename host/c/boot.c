@@ -183,6 +183,7 @@ static void hello(struct host *host, int64_t expiry, int64_t now)
         .event = {
             .code = MENHOTRAC_EVENT_SC_HELLO,
             .verdict = MENHOTRAC_VERDICT_YES,
+            .margin = 0, /* A host may let tokens count as spent up to 300 seconds early. */
             .expiry = expiry,
             .now = now
         },

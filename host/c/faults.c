@@ -1,24 +1,11 @@
 /*
  * The step at the interface for C under test: every refusal, the worked cases of document 01 for
- * tokens and suites, its limits, and a block that is sent and repeated. Guard bytes lie around
- * everything that a call may write.
+ * suites, its limits, and a block that is sent and repeated. Guard bytes lie around everything that
+ * a call may write.
  */
 #include "bench.h"
 
 static const uint8_t too_long[MENHOTRAC_MAX_PAYLOAD + 1];
-static const uint32_t suite_2[] = {2};
-static const uint32_t sixteen[] = {2, 3, 4, 5, 6, 7, 8, 9, 10, 11, 12, 13, 14, 15, 16, 1};
-
-/* Whether guards and cache are those of `expected`, except for what a sent block changes. */
-static int kept_around(const struct bench *bench, const struct bench *expected, size_t sent)
-{
-    struct bench merged = *expected;
-
-    merged.connection = bench->connection;
-    merged.actions = bench->actions;
-    memcpy(merged.cache, bench->cache, sent);
-    return memcmp(&merged, bench, sizeof merged) == 0;
-}
 
 /* ---- Refused and ignored calls ---- */
 
@@ -72,7 +59,7 @@ static const struct unchanged_case refused[] = {
      {.event = {.code = MENHOTRAC_EVENT_UPPER_SEND_DATA}, .payload = block, .payload_len = BLOCK}},
     {"hello with verdict 2", 41, &greeted, FULL, {.event = HELLO(2)}},
     {"token with the largest verdict", 41, &expired, FULL,
-     {.event = TOKEN(MENHOTRAC_EVENT_SC_DAT, UINT32_MAX, 1060)}},
+     {.event = TOKEN(MENHOTRAC_EVENT_SC_DAT, UINT32_MAX, 0)}},
     {"verdict 2, locked", 41, &locked, FULL, {.event = HELLO(2)}},
 };
 
@@ -108,6 +95,44 @@ static const struct unchanged_case ignored[] = {
       .payload = block, .payload_len = BLOCK}},
     {"verdict 2 where none is carried", 100, &locked, FULL,
      {.event = {.code = MENHOTRAC_EVENT_SC_RE_RA, .verdict = 2}}},
+    {"hello with margin 300", 100, &ready, FULL,
+     {.event = TOKEN(MENHOTRAC_EVENT_SC_HELLO, MENHOTRAC_VERDICT_YES, 300)}},
+    {"token with margin 300, locked", 100, &locked, FULL,
+     {.event = TOKEN(MENHOTRAC_EVENT_SC_DAT, MENHOTRAC_VERDICT_YES, 300)}},
+};
+
+/* The answers where the margin is above 300, whatever the verdict is. */
+static const struct unchanged_case margins[] = {
+    {"hello", 9, &greeted, FULL, {.event = {.code = MENHOTRAC_EVENT_SC_HELLO}}},
+    {"token", 9, &expired, FULL, {.event = {.code = MENHOTRAC_EVENT_SC_DAT}}},
+    {"hello, ignored", 9, &ready, FULL, {.event = {.code = MENHOTRAC_EVENT_SC_HELLO}}},
+    {"token, ignored", 9, &ready, FULL, {.event = {.code = MENHOTRAC_EVENT_SC_DAT}}},
+    {"hello, locked", 9, &locked, FULL, {.event = {.code = MENHOTRAC_EVENT_SC_HELLO}}},
+    {"token, locked", 9, &locked, FULL, {.event = {.code = MENHOTRAC_EVENT_SC_DAT}}},
+    {"code 24", 1, &ready, FULL, {.event = {.code = 24}}},
+    {"a timer above 2", 2, &both_run, FULL,
+     {.event = {.code = MENHOTRAC_EVENT_HANDSHAKE_TIMEOUT, .timer = 3}}},
+    {"DATA with bit 2", 3, &ready, FULL, {.event = {.code = MENHOTRAC_EVENT_SC_DATA, .bit = 2}}},
+    {"payload of 4,097 bytes", 4, &ready, FULL,
+     {.event = {.code = MENHOTRAC_EVENT_UPPER_SEND_DATA},
+      .payload = too_long, .payload_len = sizeof too_long}},
+    {"hello and short cache", 5, &greeted, FULL - 1,
+     {.event = {.code = MENHOTRAC_EVENT_SC_HELLO}}},
+    {"token and short cache", 5, &expired, FULL - 1, {.event = {.code = MENHOTRAC_EVENT_SC_DAT}}},
+    {"hello and 17 entries", 6, &greeted, FULL,
+     {.event = {.code = MENHOTRAC_EVENT_SC_HELLO}, .our_provers = LIST(seventeen)}},
+    {"hello and a record that is not well formed", 7, &ready_without_ra, FULL,
+     {.event = {.code = MENHOTRAC_EVENT_SC_HELLO}}},
+    {"token and a record that is not well formed", 7, &ready_without_ra, FULL,
+     {.event = {.code = MENHOTRAC_EVENT_SC_DAT}}},
+    {"hello and the largest number", 8, &greeted_at_limit, FULL,
+     {.event = {.code = MENHOTRAC_EVENT_SC_HELLO}}},
+    {"token and the largest number", 8, &expired_at_limit, FULL,
+     {.event = {.code = MENHOTRAC_EVENT_SC_DAT}}},
+    {"hello and the largest number, ignored", 9, &ready_at_limit, FULL,
+     {.event = {.code = MENHOTRAC_EVENT_SC_HELLO}}},
+    {"token and the largest number, ignored", 9, &ready_at_limit, FULL,
+     {.event = {.code = MENHOTRAC_EVENT_SC_DAT}}},
 };
 
 /* Record, cache and guards as they were, and all actions 0. */
@@ -133,6 +158,62 @@ static void test_unchanged(const struct unchanged_case *cases, size_t count)
     for (i = 0; i < count; i++) {
         for (j = 0; j < COUNT(entries); j++)
             check_unchanged(&cases[i], entries[j]);
+    }
+}
+
+static void test_margins(void)
+{
+    size_t i;
+    size_t j;
+    uint32_t verdict;
+
+    for (i = 0; i < COUNT(margins); i++) {
+        for (j = 0; j < COUNT(large_margins); j++) {
+            for (verdict = MENHOTRAC_VERDICT_NO; verdict <= 2; verdict++) {
+                struct unchanged_case given = margins[i];
+
+                given.call.event.margin = large_margins[j];
+                given.call.event.verdict = verdict;
+                test_unchanged(&given, 1);
+            }
+        }
+    }
+}
+
+/* The event does the same with the largest margin as with none. */
+static void check_margin_not_read(uint32_t code, uint32_t tag, const menhotrac_connection *record)
+{
+    menhotrac_call call = {
+        .event = {.code = code, .tag = tag}, .payload = block, .payload_len = BLOCK
+    };
+    struct bench bench;
+    struct bench expected;
+    uint32_t answer;
+
+    set_up(&bench, record);
+    set_up(&expected, record);
+    answer = step(&expected, &call);
+    call.event.margin = UINT32_MAX;
+    CHECK(step(&bench, &call) == answer);
+    CHECK(memcmp(&bench, &expected, sizeof bench) == 0);
+}
+
+/* With tags of which each is live in one of the records. */
+static void test_margin_not_read(void)
+{
+    static const uint32_t tags[] = {1, 2, 4, 7, 8, 9};
+    uint32_t code;
+    size_t i;
+    size_t j;
+
+    running = "a margin that is not carried";
+    for (code = 0; code <= MENHOTRAC_EVENT_ACK_TIMEOUT; code++) {
+        if (code == MENHOTRAC_EVENT_SC_HELLO || code == MENHOTRAC_EVENT_SC_DAT)
+            continue;
+        for (i = 0; i < COUNT(records); i++) {
+            for (j = 0; j < COUNT(tags); j++)
+                check_margin_not_read(code, tags[j], records[i]);
+        }
     }
 }
 
@@ -183,7 +264,7 @@ static void test_empty_slices(void)
     }
 }
 
-/* ---- Record, token and suites ---- */
+/* ---- Record and suites ---- */
 
 static void test_fresh(void)
 {
@@ -195,39 +276,6 @@ static void test_fresh(void)
     set_up(&expected, &fresh);
     menhotrac_fresh(&bench.connection);
     CHECK(memcmp(&bench, &expected, sizeof bench) == 0);
-}
-
-static void test_seconds_left(void)
-{
-    static const struct {
-        const char *name;
-        int64_t expiry;
-        int64_t now;
-        int64_t left;
-    } cases[] = {
-        {"case 11", 1000, 1000, 0},
-        {"the boot run's token", 1060, 1000, 60},
-        {"a second late", 1000, 1001, -1},
-        {"across zero", 30, -30, 60},
-        {"a day less a second", 87399, 1000, 86399},
-        {"a day", 87400, 1000, 86400},
-        {"a day and a second", 87401, 1000, 86400},
-        {"late by a day less a second", 1000, 87399, -86399},
-        {"late by a day", 1000, 87400, -86400},
-        {"late by a day and a second", 1000, 87401, -86400},
-        {"case 12", INT64_MAX, INT64_MIN, 86400},
-        {"case 12, swapped", INT64_MIN, INT64_MAX, -86400},
-        {"both largest", INT64_MAX, INT64_MAX, 0},
-        {"both smallest", INT64_MIN, INT64_MIN, 0},
-        {"one more than 64 bits hold", INT64_MAX, -1, 86400},
-        {"one less than 64 bits hold", INT64_MIN, 1, -86400},
-    };
-    size_t i;
-
-    for (i = 0; i < COUNT(cases); i++) {
-        running = cases[i].name;
-        CHECK(menhotrac_seconds_left(cases[i].expiry, cases[i].now) == cases[i].left);
-    }
 }
 
 struct choice_case {
@@ -292,63 +340,6 @@ static void test_choices(void)
 }
 
 /* ---- Handled calls ---- */
-
-/* Case 11 and its neighbours: whether a hello opens the connection. */
-struct hello_case {
-    const char *name;
-    uint32_t seconds; /* of DAT, 0 where the hello locks */
-    menhotrac_event event;
-    menhotrac_list our_provers;
-};
-
-static const struct hello_case hellos[] = {
-    {"the boot run's hello", 60, HELLO(MENHOTRAC_VERDICT_YES), LIST(suites_3_7)},
-    {"case 11, no second left", 0, TOKEN(MENHOTRAC_EVENT_SC_HELLO, 1, 1000), LIST(suites_3_7)},
-    {"one second left", 1, TOKEN(MENHOTRAC_EVENT_SC_HELLO, 1, 1001), LIST(suites_3_7)},
-    {"verdict no", 0, HELLO(MENHOTRAC_VERDICT_NO), LIST(suites_3_7)},
-    {"16 suites", 60, HELLO(MENHOTRAC_VERDICT_YES), LIST(sixteen)},
-    {"no suite in common", 0, HELLO(MENHOTRAC_VERDICT_YES), LIST(suite_2)},
-};
-
-static const menhotrac_actions locking = {
-    .message = MENHOTRAC_MESSAGE_CLOSE, .h = MENHOTRAC_TIMER_CANCEL
-};
-static const menhotrac_actions opening = {
-    .prover = MENHOTRAC_DRIVER_START, .verifier = MENHOTRAC_DRIVER_START,
-    .h = MENHOTRAC_TIMER_CANCEL, .hp = MENHOTRAC_TIMER_START, .hv = MENHOTRAC_TIMER_START,
-    .dat = MENHOTRAC_TIMER_START, .verifier_suite = 7, .prover_suite = 3
-};
-
-static void check_hello(const struct hello_case *given)
-{
-    menhotrac_call call = {
-        .event = given->event, .our_verifiers = LIST(suites_7_3), .peer_provers = LIST(suites_3_7),
-        .peer_verifiers = LIST(suite_3), .our_provers = given->our_provers
-    };
-    int opens = given->seconds > 0;
-    menhotrac_actions expected = opens ? opening : locking;
-    struct bench bench;
-    struct bench before;
-
-    running = given->name;
-    expected.dat_seconds = given->seconds;
-    set_up(&bench, &greeted);
-    before = bench;
-    CHECK(step(&bench, &call) == MENHOTRAC_HANDLED);
-    CHECK(bench.connection.state
-          == (opens ? MENHOTRAC_STATE_WAIT_FOR_RA : MENHOTRAC_STATE_CLOSED_LOCKED));
-    CHECK(bench.connection.handled == greeted.handled + 1);
-    CHECK(memcmp(&bench.actions, &expected, sizeof expected) == 0);
-    CHECK(kept_around(&bench, &before, 0));
-}
-
-static void test_hellos(void)
-{
-    size_t i;
-
-    for (i = 0; i < COUNT(hellos); i++)
-        check_hello(&hellos[i]);
-}
 
 /* A block of 0 and of 4,096 bytes is taken; the cache keeps its bytes after the block. */
 static void check_sent(const char *name, const uint8_t *payload, size_t len)
@@ -505,7 +496,9 @@ static void test_names(void)
     CHECK(strcmp(menhotrac_answer_name(MENHOTRAC_REFUSED_WRONG_BIT), "wrong bit") == 0);
     CHECK(strcmp(menhotrac_answer_name(MENHOTRAC_REFUSED_NUMBER_EXHAUSTED),
                  "number of handled events exhausted") == 0);
-    CHECK(strcmp(menhotrac_answer_name(9), "unknown") == 0);
+    CHECK(strcmp(menhotrac_answer_name(MENHOTRAC_REFUSED_MARGIN_TOO_LARGE),
+                 "margin too large") == 0);
+    CHECK(strcmp(menhotrac_answer_name(10), "unknown") == 0);
     CHECK(strcmp(menhotrac_answer_name(20), "unknown") == 0);
     CHECK(strcmp(menhotrac_answer_name(MENHOTRAC_REFUSED_ENDS_TOO_SOON),
                  "message ends too soon") == 0);
@@ -527,12 +520,12 @@ int main(void)
     test_unchanged(refused, COUNT(refused));
     test_unchanged(lowest, COUNT(lowest));
     test_unchanged(ignored, COUNT(ignored));
+    test_margins();
+    test_margin_not_read();
     test_payload_too_long();
     test_empty_slices();
     test_fresh();
-    test_seconds_left();
     test_choices();
-    test_hellos();
     check_sent("block of 0 bytes", block, 0);
     check_sent("block of 5 bytes", block, BLOCK);
     check_sent("block of 4,096 bytes", full_block, sizeof full_block);

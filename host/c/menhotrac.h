@@ -3,7 +3,8 @@
  *
  * The host runs sockets, TLS, timers, attestation drivers and the check of a token's signature.
  * For everything that happens it makes one call, and then carries out the actions that the call
- * wrote. "Document 01" in comments is the paper "Precise rules and scope of the connection build".
+ * wrote. "Document 01" in comments is the paper "Precise rules and scope of the connection build",
+ * as its change requests amend it.
  *
  * Building a host, at the root of the repository:
  *
@@ -30,7 +31,7 @@
  * A call is handled, ignored or refused. An ignored or refused call leaves record and cache as
  * they were and sets all actions to 0 (for 42 and 43 see menhotrac_call_step). Faults are looked
  * for at every call, in this order, and the first one is given: 42 and 43, in the calls that test
- * pointers; 21 to 25, where bytes are read; 1 to 8; 41. After a refusal the host may go on, or end
+ * pointers; 21 to 25, where bytes are read; 1 to 9; 41. After a refusal the host may go on, or end
  * the connection with SC_ERROR or UPPER_CLOSE; one that gets 7 or 8 is refused these too, so the
  * host drops it.
  *
@@ -41,6 +42,13 @@
  * on it: menhotrac_call_read says which message the bytes are and where the token lies, the host
  * checks it, and then gives the same bytes to menhotrac_call_receive. A host with a reader of its
  * own makes the events SC_HELLO to SC_ACK itself and calls menhotrac_call_step.
+ *
+ * TOKENS
+ *
+ * The seconds left of a token are expiry minus now minus margin, worked out exactly and then
+ * clamped to -86,400 to 86,400: with a margin the token counts as spent before its expiry. A token
+ * is good if the host's verdict is YES and at least one second is left; DAT then runs for the
+ * seconds left. A HELLO or DAT with a bad token locks the connection, unless it is ignored.
  *
  * TAGS
  *
@@ -86,7 +94,8 @@ extern "C" {
 enum menhotrac_limit {
     MENHOTRAC_MAX_PAYLOAD = 4096, /* bytes of a payload */
     MENHOTRAC_MIN_CACHE = 4096,   /* bytes of a cache */
-    MENHOTRAC_MAX_SUITES = 16     /* entries of a suite list */
+    MENHOTRAC_MAX_SUITES = 16,    /* entries of a suite list */
+    MENHOTRAC_MAX_MARGIN = 300    /* seconds of a token's margin */
 };
 
 enum menhotrac_state {
@@ -119,9 +128,9 @@ enum menhotrac_event_code {
     MENHOTRAC_EVENT_RA_PROVER_FAILED = 8,   /* tag */
     MENHOTRAC_EVENT_RA_PROVER_MSG = 9,      /* tag; payload */
     MENHOTRAC_EVENT_SC_ERROR = 10,
-    MENHOTRAC_EVENT_SC_HELLO = 11,          /* verdict, expiry, now; the four suite lists */
+    MENHOTRAC_EVENT_SC_HELLO = 11,          /* verdict, margin, expiry, now; the four suite lists */
     MENHOTRAC_EVENT_SC_CLOSE = 12,
-    MENHOTRAC_EVENT_SC_DAT = 13,            /* verdict, expiry, now */
+    MENHOTRAC_EVENT_SC_DAT = 13,            /* verdict, margin, expiry, now */
     MENHOTRAC_EVENT_SC_DAT_EXPIRED = 14,
     MENHOTRAC_EVENT_SC_RA_PROVER = 15,      /* payload: from the peer's prover to our verifier */
     MENHOTRAC_EVENT_SC_RA_VERIFIER = 16,    /* payload: from the peer's verifier to our prover */
@@ -191,6 +200,7 @@ enum menhotrac_answer {
     MENHOTRAC_REFUSED_LIST_TOO_LONG = 6,     /* SC_HELLO with a list of more than 16 entries */
     MENHOTRAC_REFUSED_NOT_WELL_FORMED = 7,   /* a record that no call leaves: not well formed */
     MENHOTRAC_REFUSED_NUMBER_EXHAUSTED = 8,  /* would be handled, but `handled` is the largest */
+    MENHOTRAC_REFUSED_MARGIN_TOO_LARGE = 9,  /* SC_HELLO or SC_DAT with a margin above 300 */
     MENHOTRAC_REFUSED_ENDS_TOO_SOON = 21,    /* bytes that end within a number or a part */
     MENHOTRAC_REFUSED_UNEXPECTED_FIELD = 22, /* not just one message; a field unknown or again */
     MENHOTRAC_REFUSED_WRONG_WIRE_TYPE = 23,  /* a field that has not its own wire type */
@@ -227,6 +237,7 @@ typedef struct menhotrac_event {
     uint32_t timer;   /* enum menhotrac_handshake_timer */
     uint32_t bit;
     uint32_t verdict; /* enum menhotrac_verdict */
+    uint32_t margin;  /* how many seconds before its expiry the token counts as spent, 0 to 300 */
     int64_t expiry;   /* when the token runs out, and the time now: in seconds of one clock */
     int64_t now;
 } menhotrac_event;
@@ -276,6 +287,7 @@ typedef struct menhotrac_message {
 /* What the host found of the token in a HELLO or DAT. It is not read for other messages. */
 typedef struct menhotrac_token {
     uint32_t verdict; /* enum menhotrac_verdict */
+    uint32_t margin;  /* how many seconds before its expiry the token counts as spent, 0 to 300 */
     int64_t expiry;   /* when the token runs out, and the time now: in seconds of one clock */
     int64_t now;
 } menhotrac_token;
@@ -330,6 +342,7 @@ MENHOTRAC_AT(event, tag, 4, 4);
 MENHOTRAC_AT(event, timer, 8, 4);
 MENHOTRAC_AT(event, bit, 12, 4);
 MENHOTRAC_AT(event, verdict, 16, 4);
+MENHOTRAC_AT(event, margin, 20, 4);
 MENHOTRAC_AT(event, expiry, 24, 8);
 MENHOTRAC_AT(event, now, 32, 8);
 
@@ -368,6 +381,7 @@ MENHOTRAC_AT(message, size, 40, 8);
 
 MENHOTRAC_TYPE(token, 24, 8);
 MENHOTRAC_AT(token, verdict, 0, 4);
+MENHOTRAC_AT(token, margin, 4, 4);
 MENHOTRAC_AT(token, expiry, 8, 8);
 MENHOTRAC_AT(token, now, 16, 8);
 
@@ -398,8 +412,13 @@ MENHOTRAC_ABI uint32_t menhotrac_step(menhotrac_connection *connection, menhotra
                                       const uint32_t *peer_verifiers, size_t peer_verifiers_len,
                                       const uint32_t *our_provers, size_t our_provers_len);
 
-/* The seconds left of a token: expiry minus now, clamped to -86,400 to 86,400. */
-MENHOTRAC_ABI int64_t menhotrac_seconds_left(int64_t expiry, int64_t now);
+/*
+ * The seconds left of a token, asked alone. It returns 0, or 9
+ * (MENHOTRAC_REFUSED_MARGIN_TOO_LARGE), and writes the seconds; those are 0 where it refuses. The
+ * pointer is not tested.
+ */
+MENHOTRAC_ABI uint32_t menhotrac_seconds_left(int64_t expiry, int64_t now, uint32_t margin,
+                                              int64_t *seconds);
 
 /*
  * The suite choice, asked alone. It returns 0, or 6 (MENHOTRAC_REFUSED_LIST_TOO_LONG), and writes
@@ -766,7 +785,7 @@ static inline const char *menhotrac_answer_name(uint32_t answer)
     static const char *const step[] = {
         "handled", "unknown event code", "unknown handshake timer", "wrong bit",
         "payload too long", "cache too short", "suite list too long", "record not well formed",
-        "number of handled events exhausted"
+        "number of handled events exhausted", "margin too large"
     };
     static const char *const reader[] = {
         "message ends too soon", "unexpected field", "wrong wire type", "number too large",

@@ -171,16 +171,15 @@ static menhotrac_receipt bare_receive(menhotrac_connection *connection,
 
 static receiver *const receivers[] = {bare_receive, menhotrac_call_receive};
 
-static const menhotrac_connection *const records[] = {
-    &fresh, &greeted, &greeted_at_limit, &both_run, &expired, &ready, &ready_at_limit,
-    &ready_without_ra, &waiting, &locked
-};
-
 static const menhotrac_token tokens[] = {
     {.verdict = MENHOTRAC_VERDICT_YES, .expiry = 1060, .now = 1000},
     {.verdict = MENHOTRAC_VERDICT_YES, .expiry = 1000, .now = 1000},
     {.verdict = MENHOTRAC_VERDICT_NO, .expiry = 1060, .now = 1000},
     {.verdict = 2, .expiry = 1060, .now = 1000},
+    {.verdict = MENHOTRAC_VERDICT_YES, .margin = 59, .expiry = 1060, .now = 1000},
+    {.verdict = MENHOTRAC_VERDICT_YES, .margin = 300, .expiry = 1060, .now = 1000},
+    {.verdict = MENHOTRAC_VERDICT_YES, .margin = 301, .expiry = 1060, .now = 1000},
+    {.verdict = 2, .margin = UINT32_MAX, .expiry = 1060, .now = 1000},
 };
 
 /* The codes of the messages 1 to 9. */
@@ -206,7 +205,8 @@ static menhotrac_call call_of(const struct message_case *given, const menhotrac_
     menhotrac_call call = {
         .event = {
             .code = codes[given->message.number], .bit = given->message.bit,
-            .verdict = token->verdict, .expiry = token->expiry, .now = token->now
+            .verdict = token->verdict, .margin = token->margin, .expiry = token->expiry,
+            .now = token->now
         },
         .payload = given->bytes + given->message.place,
         .payload_len = given->message.size,
@@ -335,6 +335,56 @@ static void test_refused_hellos(void)
     check_unchanged(&changed, &greeted, FULL, MENHOTRAC_REFUSED_LIST_TOO_LONG, 4);
 }
 
+/* A margin above 300, alone and beside a fault of a lower number. */
+static void check_margin(const struct message_case *given, uint32_t margin, uint32_t verdict)
+{
+    static const struct {
+        const menhotrac_connection *record;
+        size_t cache_len;
+        uint32_t answer;
+    } cases[] = {
+        {&greeted, FULL, MENHOTRAC_REFUSED_MARGIN_TOO_LARGE},
+        {&expired, FULL, MENHOTRAC_REFUSED_MARGIN_TOO_LARGE},
+        {&ready_at_limit, FULL, MENHOTRAC_REFUSED_MARGIN_TOO_LARGE},
+        {&locked, FULL, MENHOTRAC_REFUSED_MARGIN_TOO_LARGE},
+        {&greeted, FULL - 1, MENHOTRAC_REFUSED_CACHE_TOO_SHORT},
+        {&ready_without_ra, FULL, MENHOTRAC_REFUSED_NOT_WELL_FORMED},
+    };
+    const menhotrac_token token = {
+        .verdict = verdict, .margin = margin, .expiry = 1060, .now = 1000
+    };
+    const menhotrac_arrival arrival = arrival_of(given, &token);
+    const menhotrac_connection *at_limit =
+        given->message.number == MENHOTRAC_MESSAGE_HELLO ? &greeted_at_limit : &expired_at_limit;
+    size_t i;
+
+    for (i = 0; i < COUNT(cases); i++)
+        check_unchanged(&arrival, cases[i].record, cases[i].cache_len, cases[i].answer,
+                        given->message.place);
+    check_unchanged(&arrival, at_limit, FULL, MENHOTRAC_REFUSED_NUMBER_EXHAUSTED,
+                    given->message.place);
+}
+
+/* Each HELLO and each DAT. */
+static void test_margins(void)
+{
+    size_t i;
+    size_t j;
+    uint32_t verdict;
+
+    for (i = 0; i < COUNT(messages); i++) {
+        uint32_t number = messages[i].message.number;
+
+        running = messages[i].name;
+        if (number != MENHOTRAC_MESSAGE_HELLO && number != MENHOTRAC_MESSAGE_DAT)
+            continue;
+        for (j = 0; j < COUNT(large_margins); j++) {
+            for (verdict = MENHOTRAC_VERDICT_NO; verdict <= 2; verdict++)
+                check_margin(&messages[i], large_margins[j], verdict);
+        }
+    }
+}
+
 /* The largest payload is taken and one more byte is not; a token may be longer. */
 static void test_long_parts(void)
 {
@@ -372,6 +422,7 @@ int main(void)
     test_as_events();
     test_unreadable();
     test_refused_hellos();
+    test_margins();
     test_long_parts();
     printf("messages: %lu checks passed\n", checks);
     return EXIT_SUCCESS;

@@ -62,10 +62,15 @@ static void stop_if_refused(uint32_t answer)
     }
 }
 
-/* A host checks the signature, and takes the expiry from the token and the time from its clock. */
+/*
+ * A host checks the signature, and takes the expiry from the token and the time from its clock. It
+ * may let tokens count as spent up to 300 seconds early, with a margin.
+ */
 static menhotrac_token check_token(const uint8_t *token, size_t len)
 {
-    menhotrac_token found = {.verdict = MENHOTRAC_VERDICT_NO, .expiry = 1060, .now = 1000};
+    menhotrac_token found = {
+        .verdict = MENHOTRAC_VERDICT_NO, .margin = 0, .expiry = 1060, .now = 1000
+    };
 
     if (len == sizeof good_token && memcmp(token, good_token, len) == 0)
         found.verdict = MENHOTRAC_VERDICT_YES;

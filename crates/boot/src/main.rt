@@ -35,7 +35,7 @@ fn main() {
     call(acknowledged, event(codes::RA_PROVER_OK, 6), &[], &mut cache);
 }
 
-// The run's events have bit 0, and its token a verdict of yes.
+// The run's events have bit 0, and its token a verdict of yes and no margin.
 fn event(code: u32, tag: u32) -> Event {
     Event {
         code,
@@ -43,6 +43,7 @@ fn event(code: u32, tag: u32) -> Event {
         timer: 0,
         bit: 0,
         verdict: true,
+        margin: 0,
         expiry: EXPIRY,
         now: NOW,
     }

@@ -27,13 +27,14 @@ flatEventWith code bit token = record {
   timer = 0;
   bit = bit;
   verdict = token .verdict;
+  margin = token .margin;
   expiry = token .expiry;
   now = token .now;
 }
 
 -- The same token with its verdict as yes or no.
 abbrev pub tokenOf : FlatToken → Token
-tokenOf token = record { verdict = eqb (token .verdict) 1; expiry = token .expiry; now = token .now }
+tokenOf token = record { verdict = eqb (token .verdict) 1; margin = token .margin; expiry = token .expiry; now = token .now }
 
 -- What the interface refuses of a token: a verdict that is neither 0 nor 1.
 abbrev pub tokenRefusal : FlatToken → ℕ

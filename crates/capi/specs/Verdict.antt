@@ -27,6 +27,7 @@ eventOf flat = record {
   timer = flat .timer;
   bit = flat .bit;
   verdict = eqb (flat .verdict) 1;
+  margin = flat .margin;
   expiry = flat .expiry;
   now = flat .now;
 }

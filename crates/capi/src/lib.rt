@@ -14,13 +14,14 @@ ghost use Rattle.inbound.specs.Arrival.{codeOf};
 ghost use Rattle.flat.specs.Flat.{numbersOf, recordIn};
 ghost use Rattle.record.specs.WellFormed as spec;
 ghost use Rattle.suites.specs.Choice.{choice};
-ghost use Rattle.token.specs.SecondsLeft.{secondsLeft};
+ghost use Rattle.token.specs.Answer.{timeLeft};
 ghost use Rattle.wire.specs.Flat.{flatIn, readingBy};
 ghost use Rattle.wire.specs.Message.{readingOf};
 ghost use Rattle.wire.specs.Numbers.{proversAfter, verifiersAfter};
 
 mod answer;
 mod choice;
+mod time;
 
 use crate::answer::number_of;
 use crate::choice::numbers_in;
@@ -50,6 +51,7 @@ pub struct FlatEvent {
     pub timer: u32,
     pub bit: u32,
     pub verdict: u32,
+    pub margin: u32,
     pub expiry: i64,
     pub now: i64,
 }
@@ -63,6 +65,7 @@ fn event_of(flat: FlatEvent) -> Event
         timer: flat.timer,
         bit: flat.bit,
         verdict: flat.verdict == YES,
+        margin: flat.margin,
         expiry: flat.expiry,
         now: flat.now,
     }
@@ -89,6 +92,7 @@ fn refused_as(flat: FlatEvent) -> u32
 #[repr(C)]
 pub struct FlatToken {
     pub verdict: u32,
+    pub margin: u32,
     pub expiry: i64,
     pub now: i64,
 }
@@ -102,6 +106,7 @@ fn event_in(code: u32, bit: u32, token: FlatToken) -> FlatEvent
         timer: 0,
         bit,
         verdict: token.verdict,
+        margin: token.margin,
         expiry: token.expiry,
         now: token.now,
     }
@@ -115,12 +120,20 @@ pub extern "C" fn menhotrac_fresh(connection: &mut [u32; 12])
     *connection = numbers_of(fresh());
 }
 
-// The seconds left of a token.
+// Seconds left at a time, asked alone: the refusal, and the seconds.
 #[no_mangle]
-pub extern "C" fn menhotrac_seconds_left(expiry: i64, now: i64) -> i64
-    ensures { λ r. ⌜ r ≡ secondsLeft expiry now ⌝ }
+pub extern "C" fn menhotrac_seconds_left(
+    expiry: i64,
+    at: i64,
+    margin: u32,
+    seconds: &mut i64,
+) -> u32
+    ensures { λ r. ⌜ r ≡ timeLeft expiry at margin .refusal ⌝ }
+    ensures { λ _. ⌜ now (seconds .exit) ≡ timeLeft expiry at margin .seconds ⌝ }
 {
-    seconds_left(expiry, now)
+    let left = seconds_left(expiry, at, margin);
+    *seconds = time::seconds_in(left);
+    time::refusal_in(left)
 }
 
 // The suite choice, asked alone: the refusal, and both suites with whether they were found.

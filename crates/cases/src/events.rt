@@ -11,6 +11,7 @@ pub(crate) fn plain(code: u32) -> Event {
         timer: 0,
         bit: 0,
         verdict: false,
+        margin: 0,
         expiry: 0,
         now: 0,
     }
@@ -41,4 +42,10 @@ pub(crate) fn token(code: u32, verdict: bool, expiry: i64) -> Event {
     event.expiry = expiry;
     event.now = NOW;
     event
+}
+
+pub(crate) fn with_margin(event: Event, margin: u32) -> Event {
+    let mut changed = event;
+    changed.margin = margin;
+    changed
 }

@@ -33,6 +33,22 @@ pub(crate) const GREETED: Connection = Connection {
     ack: 0,
 };
 
+// WAIT_FOR_HELLO after the largest number of handled events.
+pub(crate) const GREETED_AT_LIMIT: Connection = Connection {
+    state: 1,
+    awaiting_ack: 0,
+    next_send_bit: 0,
+    expected_bit: 0,
+    cached_len: 0,
+    handled: 4_294_967_295,
+    h: 1,
+    prover: 0,
+    verifier: 0,
+    dat: 0,
+    ra: 0,
+    ack: 0,
+};
+
 // WAIT_FOR_RA.
 pub(crate) const BOTH_RUN: Connection = Connection {
     state: 2,

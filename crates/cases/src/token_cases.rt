@@ -1,9 +1,10 @@
-// Seconds left, and the seconds of a good token.
+// Seconds left without a margin, and the seconds of a good token.
 use crate::print;
+use token::TimeLeft;
 
-const LARGEST: i64 = 9_223_372_036_854_775_807;
+pub(crate) const LARGEST: i64 = 9_223_372_036_854_775_807;
 
-const SMALLEST: i64 = -9_223_372_036_854_775_808;
+pub(crate) const SMALLEST: i64 = -9_223_372_036_854_775_808;
 
 pub(crate) fn run() {
     print::heading(b"seconds left");
@@ -71,12 +72,20 @@ fn good_tokens() {
 
 fn left(label: &[u8], expiry: i64, now: i64) {
     print::label(label);
-    print::signed(token::seconds_left(expiry, now));
+    seconds(token::seconds_left(expiry, now, 0));
     print::end_line();
+}
+
+// The seconds of an answer, 0 if it is a refusal.
+pub(crate) fn seconds(time: TimeLeft) {
+    match time {
+        TimeLeft::Seconds(seconds) => print::signed(seconds),
+        TimeLeft::MarginTooLarge => print::signed(0),
+    }
 }
 
 fn good(label: &[u8], verdict: bool, expiry: i64, now: i64) {
     print::label(label);
-    print::number(token::good_seconds(verdict, expiry, now) as u64);
+    print::number(token::good_seconds(verdict, expiry, now, 0) as u64);
     print::end_line();
 }

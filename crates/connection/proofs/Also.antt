@@ -1,7 +1,7 @@
 -- What is decided where the host's interface may refuse too, and an outcome written in numbers.
 -- Assumes nothing.
-use mathlib.Core.Path.{_≡_, refl, subst, ap, _∙_}
-use mathlib.Core.Bool.{Bool, true, false, not, _&&_, cond}
+use mathlib.Core.Path.{_≡_, refl, sym, subst, ap, _∙_}
+use mathlib.Core.Bool.{Bool, true, false, not, _&&_, cond, false≢true}
 use mathlib.Core.List.{List}
 use Prim.Native.Nat.{ℕ}
 use lib.Dec.{eqb}
@@ -15,10 +15,10 @@ use Rattle.protocol.specs.declared.Answer.the-variants.{Handled, Ignored, Refus
 use Rattle.protocol.specs.declared.Outcome.{Outcome}
 use Rattle.record.specs.declared.Connection.{Connection}
 use Rattle.event.specs.declared.Input.{Input}
-use Rattle.connection.specs.Also.{decidedAlso, resultAlso}
+use Rattle.connection.specs.Also.{lateAlso, decidedAlso, resultAlso}
 use Rattle.flat.specs.Flat.{recordIn, slotsOf}
 use Rattle.flat.specs.Written.{Written}
-use Rattle.protocol.proofs.Decided.{number-is}
+use Rattle.protocol.proofs.Decided.{late, number-is}
 use Rattle.protocol.proofs.Stepped.{never-refused}
 
 -- What is written of an outcome is written of one that equals it.
@@ -43,7 +43,7 @@ module _ (also : ℕ) (connection : Connection) (code : ℕ) (input : Input) whe
   refused-also number n e = rw n at (also-of (unchanged (Refused number) connection) e)
 
   -- It ignores the event.
-  pub ignored-also : unchanged Ignored connection ≡ decided limits connection code input → unchanged (cond (eqb also 0) Ignored (Refused also)) connection ≡ decidedAlso also connection code input
+  ignored-also : unchanged Ignored connection ≡ decided limits connection code input → unchanged (cond (eqb also 0) Ignored (Refused also)) connection ≡ decidedAlso also connection code input
   ignored-also e = by-also (eqb also 0) ∙ also-of (unchanged Ignored connection) e
     where
       by-also : (b : Bool) → unchanged (cond b Ignored (Refused also)) connection ≡ cond (not b) (unchanged (Refused also) connection) (unchanged Ignored connection)
@@ -52,12 +52,52 @@ module _ (also : ℕ) (connection : Connection) (code : ℕ) (input : Input) whe
 
   module _ (to : ℕ) (e : handledTo to connection code input ≡ decided limits connection code input) where
     -- It would handle the event, and the interface refuses.
-    pub refused-by-also : eqb also 0 ≡ false → unchanged (Refused also) connection ≡ decidedAlso also connection code input
+    refused-by-also : eqb also 0 ≡ false → unchanged (Refused also) connection ≡ decidedAlso also connection code input
     refused-by-also a = rw a at (also-of (handledTo to connection code input) e)
 
     -- It handles the event.
-    pub handled-also : also ≡ 0 → handledTo to connection code input ≡ decidedAlso also connection code input
+    handled-also : also ≡ 0 → handledTo to connection code input ≡ decidedAlso also connection code input
     handled-also a = (rw a) ∙ also-of (handledTo to connection code input) e
+
+-- Where faults 1 to 8 are absent, by the later ones.
+module _ (also : ℕ) (connection : Connection) (code : ℕ) (input : Input) where
+  abbrev own : ℕ
+  own = late limits connection code input
+
+  -- The step's outcome, where it is that of an event, unless a later fault is present.
+  abbrev Unless : Outcome → (free : Bool) → Type 0
+  Unless outcome free = cond free outcome (unchanged (Refused own) connection) ≡ decided limits connection code input
+
+  -- The event is ignored.
+  pub ignored-late : Unless (unchanged Ignored connection) (eqb own 0)
+      → unchanged (cond (eqb (lateAlso also input) 0) Ignored (Refused (lateAlso also input))) connection ≡ decidedAlso also connection code input
+  ignored-late = by-own (eqb own 0) refl
+    where
+      by-own : (free : Bool) → eqb own 0 ≡ free → Unless (unchanged Ignored connection) free
+          → unchanged (cond (eqb (cond free also own) 0) Ignored (Refused (cond free also own))) connection ≡ decidedAlso also connection code input
+      by-own true f e = ignored-also also connection code input e
+      by-own false f e = rw f (refused-also also connection code input own f e)
+
+  module _ (to : ℕ) where
+    -- It would be handled, and is refused.
+    pub refused-late : Unless (handledTo to connection code input) (eqb own 0) → eqb (lateAlso also input) 0 ≡ false
+        → unchanged (Refused (lateAlso also input)) connection ≡ decidedAlso also connection code input
+    refused-late = by-own (eqb own 0) refl
+      where
+        by-own : (free : Bool) → eqb own 0 ≡ free → Unless (handledTo to connection code input) free → eqb (cond free also own) 0 ≡ false
+            → unchanged (Refused (cond free also own)) connection ≡ decidedAlso also connection code input
+        by-own true f e a = refused-by-also also connection code input to e a
+        by-own false f e a = refused-also also connection code input own f e
+
+    -- It is handled.
+    pub handled-late : Unless (handledTo to connection code input) (eqb own 0) → lateAlso also input ≡ 0
+        → handledTo to connection code input ≡ decidedAlso also connection code input
+    handled-late = by-own (eqb own 0) refl
+      where
+        by-own : (free : Bool) → eqb own 0 ≡ free → Unless (handledTo to connection code input) free → cond free also own ≡ 0
+            → handledTo to connection code input ≡ decidedAlso also connection code input
+        by-own true f e a = handled-also also connection code input to e a
+        by-own false f e a = absurd (false≢true (sym f ∙ ap (λ (n : ℕ). eqb n 0) a))
 
 -- A call that is handled is handled by the step.
 pub handled-by-step : (also : ℕ) (connection : Connection) (call : Call) (cache : List ℕ) → decidedAlso also connection (call .event .code) (inputOf limits call (length cache)) .answer ≡ Handled

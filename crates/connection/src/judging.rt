@@ -1,16 +1,16 @@
 // What becomes of an event: refused, ignored or handled.
 ghost use mathlib.Core.Path.{_≡_};
-ghost use mathlib.Core.Bool.{cond, not};
+ghost use mathlib.Core.Bool.{cond};
 ghost use mathlib.Core.List.{_∷_, [], _++_};
 ghost use lib.Dec.{eqb};
-ghost use Rattle.connection.specs.Also.{decidedAlso};
+ghost use Rattle.connection.specs.Also.{decidedAlso, lateAlso};
 ghost use Rattle.flat.specs.Flat.{recordIn, slotsOf};
 ghost use Rattle.flat.specs.Written.{Written};
 ghost use Rattle.record.specs.Limits.{limits};
-ghost use Rattle.protocol.specs.Faults.{firstFault, argumentFaults};
+ghost use Rattle.protocol.specs.Faults.{firstFault, earlyFaults};
 ghost use Rattle.protocol.specs.Actions.{noActions};
 ghost use Rattle.protocol.specs.declared.Answer.the-variants.{Ignored, Refused};
-ghost use Rattle.record.specs.WellFormed.{wellFormed};
+ghost use Rattle.protocol.specs.Refusal.{illFormed};
 use crate::condition::holds;
 use crate::moving::move_on;
 use event::Input;
@@ -50,15 +50,16 @@ pub(crate) fn decide(
     }
     let held = holds(connection, code, input);
     let to = next_state(connection.state, connection.awaiting_ack, code, held);
+    let late = late_fault(also, input);
     if to == IGNORED {
-        return unmoved(slots, ignored_unless(also));
+        return unmoved(slots, ignored_unless(late));
     }
     let handled = connection.handled;
     if handled == MAX_HANDLED {
         return unmoved(slots, Answer::Refused(refusals::NUMBER_EXHAUSTED));
     }
-    if also != refusals::NONE {
-        return unmoved(slots, Answer::Refused(also));
+    if late != refusals::NONE {
+        return unmoved(slots, Answer::Refused(late));
     }
     let number = handled + 1;
     if to == states::CLOSED_LOCKED {
@@ -67,12 +68,22 @@ pub(crate) fn decide(
     move_on(numbers, slots, connection, code, input, to, number)
 }
 
-// Ignored, unless the host's interface refuses.
-fn ignored_unless(also: u32) -> Answer
-    ensures { λ r. ⌜ r ≡ cond (eqb also 0) Ignored (Refused also) ⌝ }
+// Refusal 9 or, without its fault, that of the host's interface.
+fn late_fault(also: u32, input: Input) -> u32
+    ensures { λ r. ⌜ r ≡ lateAlso also input ⌝ }
 {
-    if also != refusals::NONE {
-        return Answer::Refused(also);
+    if input.margin_too_large {
+        return refusals::MARGIN_TOO_LARGE;
+    }
+    also
+}
+
+// Ignored, unless there is a refusal.
+fn ignored_unless(refusal: u32) -> Answer
+    ensures { λ r. ⌜ r ≡ cond (eqb refusal 0) Ignored (Refused refusal) ⌝ }
+{
+    if refusal != refusals::NONE {
+        return Answer::Refused(refusal);
     }
     Answer::Ignored
 }
@@ -88,7 +99,7 @@ fn unmoved(slots: &mut [u32; 16], answer: Answer) -> Answer
 
 // The lowest refusal from 1 to 7 whose fault is present, 0 if none is.
 fn lowest_fault(connection: Connection, code: u32, input: Input) -> u32
-    ensures { λ r. ⌜ r ≡ firstFault 1 (argumentFaults code input ++ (not (wellFormed limits connection) ∷ [])) ⌝ }
+    ensures { λ r. ⌜ r ≡ firstFault 1 (earlyFaults code input ++ (illFormed limits connection ∷ [])) ⌝ }
 {
     if code > codes::ACK_TIMEOUT {
         return refusals::UNKNOWN_CODE;

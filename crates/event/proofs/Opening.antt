@@ -10,7 +10,7 @@ use lib.ListN.{List·getD-eq-default}
 use denote.Enum.Declared.{tagOf}
 use types.Run.{OneOf}
 use Rattle.token.proofs.Good.{good-is-positive}
-use Rattle.token.specs.SecondsLeft.{secondsLeft}
+use Rattle.token.specs.Answer.{timeLeft}
 use Rattle.event.specs.Kind.{kinds, kindAt, fieldsOf}
 use Rattle.event.specs.declared.Event.{Event}
 use Rattle.event.specs.declared.EventKind.{EventKind}
@@ -23,20 +23,20 @@ abbrev variant : EventKind → ℕ
 variant kind = tagOf the-type kind
 
 -- Two fields agree at the variant of a place.
-abbrev Alike : (f g : EventKind → ℕ) → ℕ → Type 0
+abbrev Alike : {A : Type 0} (f g : EventKind → A) → ℕ → Type 0
 Alike f g zero = f Plain ≡ g Plain
 Alike f g (suc zero) = (tag : ℕ) → f (Tagged tag) ≡ g (Tagged tag)
 Alike f g (suc (suc zero)) = (tag timer : ℕ) → f (HandshakeTimeout tag timer) ≡ g (HandshakeTimeout tag timer)
 Alike f g (suc (suc (suc zero))) = (bit : ℕ) → f (Bit bit) ≡ g (Bit bit)
-Alike f g (suc (suc (suc (suc n)))) = (verdict : Bool) (expiry now : ℤ) → f (Token verdict expiry now) ≡ g (Token verdict expiry now)
+Alike f g (suc (suc (suc (suc n)))) = (verdict : Bool) (margin : ℕ) (expiry now : ℤ) → f (Token verdict margin expiry now) ≡ g (Token verdict margin expiry now)
 
 -- Two fields that agree at each variant of an arm.
-pub alike : (f g : EventKind → ℕ) (ks : List ℕ) → All (Alike f g) ks → (kind : EventKind) → OneOf ks (variant kind) → f kind ≡ g kind
+pub alike : {A : Type 0} (f g : EventKind → A) (ks : List ℕ) → All (Alike f g) ks → (kind : EventKind) → OneOf ks (variant kind) → f kind ≡ g kind
 alike f g ks a Plain o = at-keys (Alike f g) ks a 0 o
 alike f g ks a (Tagged tag) o = at-keys (Alike f g) ks a 1 o tag
 alike f g ks a (HandshakeTimeout tag timer) o = at-keys (Alike f g) ks a 2 o tag timer
 alike f g ks a (Bit bit) o = at-keys (Alike f g) ks a 3 o bit
-alike f g ks a (Token verdict expiry now) o = at-keys (Alike f g) ks a 4 o verdict expiry now
+alike f g ks a (Token verdict margin expiry now) o = at-keys (Alike f g) ks a 4 o verdict margin expiry now
 
 -- No code is beyond 23.
 pub no-kind : (event : Event) (k : ℕ) → 24 ≤ k → Plain ≡ kindAt k event
@@ -48,4 +48,4 @@ good-seconds Plain = refl
 good-seconds (Tagged tag) = refl
 good-seconds (HandshakeTimeout tag timer) = refl
 good-seconds (Bit bit) = refl
-good-seconds (Token verdict expiry now) = good-is-positive verdict (secondsLeft expiry now)
+good-seconds (Token verdict margin expiry now) = good-is-positive verdict (timeLeft expiry now margin .seconds)

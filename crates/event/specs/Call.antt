@@ -69,6 +69,7 @@ inputBy limits event payloadLength cacheLength suites = record {
   bit = fieldsOf (kindOf event) .bit;
   good = fieldsOf (kindOf event) .isGood;
   seconds = fieldsOf (kindOf event) .seconds;
+  «margin_too_large» = fieldsOf (kindOf event) .marginTooLarge;
   «payload_len» = shortLength limits payloadLength;
   «payload_too_long» = carriesPayload (event .code) && ltb (limits .payload) payloadLength;
   «cache_too_short» = ltb cacheLength (limits .payload);

@@ -1,4 +1,4 @@
--- Document 01, "What the machine covers" and "Shortcuts that look right": the kind of an event, which its code fixes.
+-- Document 01, "What the machine covers" and "Shortcuts that look right", and request #104: the kind of an event, which its code fixes.
 -- A field is read only from the kind that carries it. Payload and suite lists are slices: see `Call`.
 use Prim.Native.Nat.{ℕ}
 use mathlib.Core.Bool.{Bool, false, cond}
@@ -6,8 +6,9 @@ use mathlib.Core.List.{List, [], _∷_}
 use lib.Dec.{eqb}
 use lib.ListN.{getD}
 use Rattle.record.specs.Timer.{Timer, H, HP, HV}
-use Rattle.token.specs.SecondsLeft.{secondsLeft}
+use Rattle.token.specs.Answer.{timeLeft}
 use Rattle.token.specs.Good.{good, goodSeconds}
+use Rattle.token.specs.SecondsLeft.{marginTooLarge}
 use Rattle.event.specs.declared.Event.{Event}
 use Rattle.event.specs.declared.EventKind.{EventKind}
 use Rattle.event.specs.declared.EventKind.the-variants.{Plain, Tagged, HandshakeTimeout, Bit, Token}
@@ -18,7 +19,7 @@ kinds event =
     let tagged = Tagged (event .tag) in
     let timeout = HandshakeTimeout (event .tag) (event .timer) in
     let bit = Bit (event .bit) in
-    let token = Token (event .verdict) (event .expiry) (event .now) in
+    let token = Token (event .verdict) (event .margin) (event .expiry) (event .now) in
     Plain ∷ Plain ∷ Plain ∷ Plain  -- 0 to 3
     ∷ tagged ∷ tagged ∷ tagged ∷ tagged ∷ tagged ∷ tagged  -- 4 to 9
     ∷ Plain ∷ token ∷ Plain ∷ token  -- 10 to 13
@@ -35,26 +36,35 @@ kindAt code event = getD (kinds event) code Plain
 unfoldable pub kindOf : Event → EventKind
 kindOf event = kindAt (event .code) event
 
--- The fields of an event, whether its token is good, and the seconds left of a good token.
+-- The fields of an event, whether its token is good, the seconds left of a good token, and whether its margin is refused.
 pub record Fields : Type 0 where
   pub tag : ℕ
   pub timer : ℕ
   pub bit : ℕ
   pub isGood : Bool
   pub seconds : ℕ
+  pub marginTooLarge : Bool
 
 -- The fields in their order.
-abbrev pub fields : (tag timer bit : ℕ) (isGood : Bool) (seconds : ℕ) → Fields
-fields tag timer bit isGood seconds = record { tag = tag; timer = timer; bit = bit; isGood = isGood; seconds = seconds }
+abbrev pub fields : (tag timer bit : ℕ) (isGood : Bool) (seconds : ℕ) (tooLarge : Bool) → Fields
+fields tag timer bit isGood seconds tooLarge = record {
+  tag = tag;
+  timer = timer;
+  bit = bit;
+  isGood = isGood;
+  seconds = seconds;
+  marginTooLarge = tooLarge;
+}
 
--- The fields that a kind carries. The others are not read: they count as 0, and there is no good token.
+-- The fields that a kind carries. The others are not read: they count as 0, there is no good token, and no margin is refused.
 abbrev pub fieldsOf : EventKind → Fields
-fieldsOf Plain = fields 0 0 0 false 0
-fieldsOf (Tagged tag) = fields tag 0 0 false 0
-fieldsOf (HandshakeTimeout tag timer) = fields tag timer 0 false 0
-fieldsOf (Bit bit) = fields 0 0 bit false 0
-fieldsOf (Token verdict expiry now) =
-    fields 0 0 0 (good verdict (secondsLeft expiry now)) (goodSeconds verdict (secondsLeft expiry now))
+fieldsOf Plain = fields 0 0 0 false 0 false
+fieldsOf (Tagged tag) = fields tag 0 0 false 0 false
+fieldsOf (HandshakeTimeout tag timer) = fields tag timer 0 false 0 false
+fieldsOf (Bit bit) = fields 0 0 bit false 0 false
+fieldsOf (Token verdict margin expiry now) =
+    let left = timeLeft expiry now margin .seconds in
+    fields 0 0 0 (good verdict left) (goodSeconds verdict left) (marginTooLarge margin)
 
 -- The handshake timer that event 20 names: 0 H, 1 HP, 2 HV.
 abbrev pub named : ℕ → Timer

@@ -9,4 +9,4 @@ timeoutTag Plain = 0
 timeoutTag (Tagged tag) = 0
 timeoutTag (HandshakeTimeout tag timer) = tag
 timeoutTag (Bit bit) = 0
-timeoutTag (Token verdict expiry now) = 0
+timeoutTag (Token verdict margin expiry now) = 0

@@ -26,6 +26,7 @@ use table::codes::SC_RA_PROVER;
 use table::codes::SC_RA_VERIFIER;
 use table::codes::UPPER_SEND_DATA;
 use token::good_seconds;
+use token::margin_too_large;
 
 pub mod timers;
 
@@ -39,8 +40,11 @@ pub struct Event {
     // Of a handshake timeout; the names are in `timers`.
     pub timer: u32,
     pub bit: u32,
-    // The host's verdict on the token, its expiry and the time now, in seconds.
+    // The host's verdict on the token.
     pub verdict: bool,
+    // How many seconds before its expiry the token counts as spent, 0 to 300.
+    pub margin: u32,
+    // The token's expiry and the time now, in seconds.
     pub expiry: i64,
     pub now: i64,
 }
@@ -56,6 +60,7 @@ pub enum EventKind {
     Bit(u32),
     Token {
         verdict: bool,
+        margin: u32,
         expiry: i64,
         now: i64,
     },
@@ -83,6 +88,7 @@ pub struct Input {
     pub bit: u32,
     pub good: bool,
     pub seconds: u32,
+    pub margin_too_large: bool,
     pub payload_len: u32,
     pub payload_too_long: bool,
     pub cache_too_short: bool,
@@ -98,6 +104,7 @@ fn kind_of(event: Event) -> EventKind
         RA_VERIFIER_OK..=RA_PROVER_MSG => EventKind::Tagged(event.tag),
         SC_HELLO | SC_DAT => EventKind::Token {
             verdict: event.verdict,
+            margin: event.margin,
             expiry: event.expiry,
             now: event.now,
         },
@@ -156,13 +163,30 @@ fn seconds_in(kind: EventKind) -> u32
 {
     let EventKind::Token {
         verdict,
+        margin,
         expiry,
         now,
     } = kind
     else {
         return 0;
     };
-    good_seconds(verdict, expiry, now)
+    good_seconds(verdict, expiry, now, margin)
+}
+
+// Whether a token's margin is refused.
+fn margin_too_large_in(kind: EventKind) -> bool
+    ensures { λ r. ⌜ r ≡ fieldsOf kind .marginTooLarge ⌝ }
+{
+    let EventKind::Token {
+        verdict: _,
+        margin,
+        expiry: _,
+        now: _,
+    } = kind
+    else {
+        return false;
+    };
+    margin_too_large(margin)
 }
 
 // The suites of a hello; of another event the lists are not read.
@@ -260,6 +284,7 @@ pub fn read(event: Event, payload_len: usize, cache_len: usize, suites: Suites) 
         bit: bit_in(kind),
         good: seconds > 0,
         seconds,
+        margin_too_large: margin_too_large_in(kind),
         payload_len: short_len(payload_len),
         payload_too_long: payload_too_long(event.code, payload_len),
         cache_too_short: cache_len < MAX_PAYLOAD,

@@ -32,6 +32,7 @@ eventWith code bit token = record {
   timer = 0;
   bit = bit;
   verdict = token .verdict;
+  margin = token .margin;
   expiry = token .expiry;
   now = token .now;
 }

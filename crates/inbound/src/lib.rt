@@ -19,9 +19,11 @@ use wire::schema;
 // A code that no event has: a step with it is refused.
 const NO_EVENT: u32 = 24;
 
-// What the host found of a token: its verdict on the signature, when it expires and the time now, in seconds.
+// What the host found of a token: its verdict on the signature, how many seconds before its expiry it counts as spent, when
+// it expires and the time now, in seconds.
 pub struct Token {
     pub verdict: bool,
+    pub margin: u32,
     pub expiry: i64,
     pub now: i64,
 }
@@ -66,6 +68,7 @@ fn event_with(code: u32, bit: u32, token: Token) -> Event
         timer: 0,
         bit,
         verdict: token.verdict,
+        margin: token.margin,
         expiry: token.expiry,
         now: token.now,
     }

@@ -1,10 +1,10 @@
 -- Demand 3: after every call of any list the step agrees with the history.
 -- Assumes nothing.
 use mathlib.Core.Path.{_≡_, refl, sym, subst, subst⁻¹, ap, _∙_}
-use mathlib.Core.Bool.{Bool, true, false, not}
-use mathlib.Core.List.{List, [], _∷_, _++_}
+use mathlib.Core.Bool.{Bool, true, false, not, _&&_, cond}
+use mathlib.Core.List.{List, _∷_}
 use mathlib.Core.Option.{Option}
-use Prim.Native.Nat.{ℕ, suc}
+use Prim.Native.Nat.{ℕ}
 use lib.Dec.{T, eqb}
 use lib.ListN.{length}
 use borrow.Author.Tests.{eqb-true}
@@ -15,8 +15,9 @@ use Rattle.table.specs.Table.{ignored}
 use Rattle.protocol.specs.Agreement.{Block, isHandled, AgreesWith, noPast, pastAfter, Demand3}
 use Rattle.protocol.specs.Block.{partOf}
 use Rattle.protocol.specs.Condition.{nextState}
-use Rattle.protocol.specs.Faults.{argumentFaults, firstFault}
-use Rattle.protocol.specs.History.{History, hear, counts, notesAfter, counted, answerBy, answerTo, keep, historyAfter, stateOf}
+use Rattle.protocol.specs.Faults.{earlyFaults, lateFaults, firstFault}
+use Rattle.protocol.specs.History.{History, hear, counts, notesAfter, counted, refusalTo, answerTo, keep, historyAfter, stateOf}
+use Rattle.protocol.specs.Refusal.{illFormed, exhausted, refusal}
 use Rattle.protocol.specs.Step.{unchanged, handledTo, resultOf}
 use Rattle.protocol.specs.declared.Answer.{Answer}
 use Rattle.protocol.specs.declared.Answer.the-variants.{Handled, Ignored, Refused}
@@ -24,18 +25,11 @@ use Rattle.record.specs.declared.Connection.{Connection}
 use Rattle.event.specs.declared.Input.{Input}
 use Rattle.protocol.proofs.Along.{along}
 use Rattle.protocol.proofs.Carried.{Waits, Carried, unmoved, leads-there, heeded, moves}
-use Rattle.protocol.proofs.Decided as decided
-use Rattle.protocol.proofs.Decided.{none-of}
+use Rattle.protocol.proofs.Faults.{first-of, none-of}
 use Rattle.protocol.proofs.Follows.{Follows, follows-first, well-formed}
 use Rattle.protocol.proofs.Kept.{leads}
-use Rattle.protocol.proofs.Stepped.{still, result-by, Faultless, faultless}
+use Rattle.protocol.proofs.Stepped.{still, outcome-by, result-by, Faultless, faultless, unfaulted}
 use Rattle.table.proofs.Finite.{is-true}
-
--- The first fault of a list stays the same if an absent one is added at the end.
-first-but : (n : ℕ) (xs : List Bool) → firstFault n xs ≡ firstFault n (xs ++ (false ∷ []))
-first-but n [] = refl
-first-but n (true ∷ xs) = refl
-first-but n (false ∷ xs) = first-but (suc n) xs
 
 module _ (limits : Limits) (history : History) (accepted : Option Block) (connection : Connection) (cache : List ℕ)
     (R : Follows limits (length cache) history connection cache) (W : Waits history accepted) (call : Call) where
@@ -45,59 +39,97 @@ module _ (limits : Limits) (history : History) (accepted : Option Block) (connec
   abbrev read : Input
   read = inputOf limits call (length cache)
 
-  abbrev fault : ℕ
-  fault = firstFault 1 (argumentFaults code read)
+  abbrev counting : Bool
+  counting = counts (history .notes) code (hear history read)
 
-  -- The lowest fault is one of the arguments, since the record is well formed.
-  lowest : fault ≡ firstFault 1 (decided.lowerFaults limits connection code read)
-  lowest =
-      first-but 1 (argumentFaults code read)
-      ∙ ap (λ (w : Bool). firstFault 1 (argumentFaults code read ++ (not w ∷ []))) (sym (is-true (wellFormed limits connection) (well-formed limits (length cache) history connection cache R)))
+  -- The state that the notes lead to.
+  abbrev to : ℕ
+  to = stateOf (notesAfter (history .notes) code (hear history read))
 
-  full-is : (full : Bool) → eqb (history .count) (limits .handled) ≡ full → eqb (connection .handled) (limits .handled) ≡ full
-  full-is full e = ap (λ (c : ℕ). eqb c (limits .handled)) (R .number) ∙ e
+  module _ (arguments : Faultless limits call (length cache)) where
+    -- Without faults 1 to 6 the table ignores what does not count.
+    passes-over : counting ≡ false → nextState connection code read ≡ ignored
+    passes-over c = leads limits (length cache) history connection cache R call arguments ∙ ap (λ (b : Bool). cond b to ignored) c
 
+    -- It handles what counts.
+    handles : (b : Bool) → counting ≡ b → not (eqb (nextState connection code read) ignored) ≡ b
+    handles true c =
+        let t = subst⁻¹ T c tt in
+        ap (λ (s : ℕ). not (eqb s ignored)) (leads-there limits history accepted connection cache R W call arguments t)
+        ∙ ap not (heeded limits history accepted connection cache R W call arguments t)
+    handles false c = ap (λ (s : ℕ). not (eqb s ignored)) (passes-over c)
+
+    -- So fault 8 is present where the history has it.
+    same-exhausted : exhausted limits connection code read ≡ (counting && eqb (history .count) (limits .handled))
+    same-exhausted = λ i. handles counting refl i && eqb (R .number i) (limits .handled)
+
+  -- Fault 7 is absent.
+  not-ill-formed : illFormed limits connection ≡ false
+  not-ill-formed = ap not (is-true (wellFormed limits connection) (well-formed limits (length cache) history connection cache R))
+
+  -- The history's refusal is the step's.
+  same-number : refusal limits connection code read ≡ refusalTo limits (length cache) history call
+  unfolding refusal refusalTo
+  same-number =
+      first-of 0 early (illFormed limits connection ∷ exhausted limits connection code read ∷ lateFaults read)
+      ∙ by-early (eqb (firstFault 1 early) 0) refl
+      ∙ sym (first-of 0 early (false ∷ (counting && eqb (history .count) (limits .handled)) ∷ lateFaults read))
+    where
+      early : List Bool
+      early = earlyFaults code read
+
+      by-early : (free : Bool) → eqb (firstFault 1 early) 0 ≡ free
+          → cond free (firstFault 7 (illFormed limits connection ∷ exhausted limits connection code read ∷ lateFaults read)) (firstFault 1 early)
+          ≡ cond free (firstFault 7 (false ∷ (counting && eqb (history .count) (limits .handled)) ∷ lateFaults read)) (firstFault 1 early)
+      by-early true e =
+          let f = faultless limits call (length cache) (none-of 0 early (eqb-true (firstFault 1 early) 0 e)) in
+          λ i. firstFault 7 (not-ill-formed i ∷ same-exhausted f i ∷ lateFaults read)
+      by-early false e = refl
+
+  -- A call that is not handled, given its result.
   rests : (answer : Answer) → isHandled answer ≡ false → resultOf limits connection call cache ≡ still answer connection cache
       → Carried limits (length cache) history accepted call answer history (resultOf limits connection call cache)
   rests answer e r =
       subst⁻¹ (Carried limits (length cache) history accepted call answer history) r
       (unmoved limits (length cache) history accepted connection cache R W call answer e)
 
-  arguments-fit : eqb fault 0 ≡ true → Faultless limits call (length cache)
-  arguments-fit e = faultless limits call (length cache) (none-of 0 (argumentFaults code read) (eqb-true fault 0 e))
+  abbrev number : ℕ
+  number = refusalTo limits (length cache) history call
 
-  -- The step and the history, by the fault of the arguments, whether the event counts, and whether the count is the largest.
-  carried-by : (free counting full : Bool) → eqb fault 0 ≡ free → counts (history .notes) code (hear history read) ≡ counting → eqb (history .count) (limits .handled) ≡ full
-      → let answer = answerBy free counting full fault in
+  -- The step refuses just where the history does.
+  free-as : (free : Bool) → eqb number 0 ≡ free → eqb (refusal limits connection code read) 0 ≡ free
+  free-as free e = ap (λ (n : ℕ). eqb n 0) same-number ∙ e
+
+  arguments-fit : eqb number 0 ≡ true → Faultless limits call (length cache)
+  unfolding refusalTo
+  arguments-fit e = unfaulted limits call (length cache) false (counting && eqb (history .count) (limits .handled)) (eqb-true number 0 e)
+
+  -- The step and the history, by whether there is a refusal and whether the event counts.
+  carried-by : (free takes : Bool) → eqb number 0 ≡ free → counting ≡ takes
+      → let answer = cond free (cond takes Handled Ignored) (Refused number) in
       Carried limits (length cache) history accepted call answer (keep answer history (counted history code read (call .payload))) (resultOf limits connection call cache)
   unfolding partOf
-  carried-by false counting full e c f =
-      rests (Refused fault) refl
-      (result-by limits connection call cache (unchanged (Refused fault) connection)
-      (sym (decided.refused limits connection code read fault (nextState connection code read) full lowest refl (full-is full f) e)))
-  carried-by true false full e c f =
+  carried-by false takes e c =
+      rests (Refused number) refl
+      (result-by limits connection call cache (unchanged (Refused number) connection)
+      (outcome-by limits connection call cache false (eqb (nextState connection code read) ignored) (free-as false e) refl
+      ∙ (λ i. unchanged (Refused (same-number i)) connection)))
+  carried-by true false e c =
       rests Ignored refl
       (result-by limits connection call cache (unchanged Ignored connection)
-      (sym (decided.ignored limits connection code read fault (nextState connection code read) full lowest refl (full-is full f) (eqb-true fault 0 e)
-      (leads limits (length cache) history connection cache R call (arguments-fit e) ∙ rw c))))
-  carried-by true true true e c f =
-      let counting = subst⁻¹ T c tt in
-      rests (Refused 8) refl
-      (result-by limits connection call cache (unchanged (Refused 8) connection)
-      (sym (decided.refused-full limits connection code read fault (nextState connection code read) true lowest refl (full-is true f) (eqb-true fault 0 e)
-      (rw (leads-there limits history accepted connection cache R W call (arguments-fit e) counting) (heeded limits history accepted connection cache R W call (arguments-fit e) counting)) refl)))
-  carried-by true true false e c f =
-      let counting = subst⁻¹ T c tt in
+      (outcome-by limits connection call cache true true (free-as true e) (ap (λ (s : ℕ). eqb s ignored) (passes-over (arguments-fit e) c))))
+  carried-by true true e c =
+      let takes = subst⁻¹ T c tt in
+      let there = leads-there limits history accepted connection cache R W call (arguments-fit e) takes in
       subst⁻¹ (Carried limits (length cache) history accepted call Handled (counted history code read (call .payload)))
-      (result-by limits connection call cache (handledTo (stateOf (notesAfter (history .notes) code (hear history read))) connection code read)
-      (sym (decided.handled limits connection code read fault (stateOf (notesAfter (history .notes) code (hear history read))) false lowest
-      (sym (leads-there limits history accepted connection cache R W call (arguments-fit e) counting)) (full-is false f) (eqb-true fault 0 e)
-      (heeded limits history accepted connection cache R W call (arguments-fit e) counting) refl)))
-      (moves limits history accepted connection cache R W call (arguments-fit e) counting)
+      (result-by limits connection call cache (handledTo to connection code read)
+      (outcome-by limits connection call cache true false (free-as true e) (ap (λ (s : ℕ). eqb s ignored) there ∙ heeded limits history accepted connection cache R W call (arguments-fit e) takes)
+      ∙ (λ i. handledTo (there i) connection code read)))
+      (moves limits history accepted connection cache R W call (arguments-fit e) takes)
 
   carried : Carried limits (length cache) history accepted call (answerTo limits (length cache) history call) (historyAfter limits (length cache) history call) (resultOf limits connection call cache)
   unfolding answerTo historyAfter
-  carried = carried-by (eqb fault 0) (counts (history .notes) code (hear history read)) (eqb (history .count) (limits .handled)) refl refl refl
+  carried = carried-by (eqb number 0) counting refl refl
 
 -- One call, with the size of the first cache.
 pub one-call : (limits : Limits) (size : ℕ) (history : History) (accepted : Option Block) (connection : Connection) (cache : List ℕ)

@@ -1,6 +1,7 @@
 -- Cases 1 to 12 of document 01 hold.
 -- Assumes nothing.
 use mathlib.Core.Path.{refl}
+use Rattle.token.specs.Answer.{timeLeft}
 use Rattle.token.specs.SecondsLeft.{secondsLeft}
 use Rattle.suites.specs.Choice.{find, choice}
 use Rattle.table.specs.Table.{cell}
@@ -17,5 +18,5 @@ use Rattle.protocol.specs.Step.{decided, resultOf}
 use Rattle.record.specs.WellFormed.{wellFormed}
 
 pub worked : AllHold cases
-unfolding AllHold Holds resultsOf resultOf decided refusal nextState holds cell advance actionsOf partOf inputBy kindOf wellFormed choice find secondsLeft
+unfolding AllHold Holds resultsOf resultOf decided refusal nextState holds cell advance actionsOf partOf inputBy kindOf wellFormed choice find timeLeft secondsLeft
 worked = (refl, (refl, (refl, (refl, (refl, (refl, (refl, (refl, (refl, (refl, (refl, (refl, (refl, (refl, tt))))))))))))))

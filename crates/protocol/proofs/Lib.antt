@@ -7,6 +7,7 @@ pub mod Blocks
 pub mod Carried
 pub mod Cases
 pub mod Decided
+pub mod Faults
 pub mod Follows
 mod Hearing
 pub mod Joined

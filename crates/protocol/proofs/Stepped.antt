@@ -2,7 +2,7 @@
 -- Assumes nothing.
 use mathlib.Core.Path.{_≡_, refl, sym, subst⁻¹, ap, _∙_}
 use mathlib.Core.Bool.{Bool, true, false, not, _&&_, cond}
-use mathlib.Core.List.{List, []}
+use mathlib.Core.List.{List, [], _∷_}
 use Prim.Native.Nat.{ℕ, _<_, _≤_}
 use native.Mathlib.Omega.{arith}
 use lib.Dec.{T, eqb}
@@ -14,15 +14,15 @@ use Rattle.record.specs.WellFormed.{wellFormed}
 use Rattle.table.specs.Table as table
 use Rattle.protocol.specs.Block.{partOf}
 use Rattle.protocol.specs.Condition.{nextState}
-use Rattle.protocol.specs.Faults.{argumentFaults}
-use Rattle.protocol.specs.Refusal.{faults, refusal}
+use Rattle.protocol.specs.Faults.{earlyFaults, lateFaults, faults, lowest}
+use Rattle.protocol.specs.Refusal.{illFormed, exhausted, refusal}
 use Rattle.protocol.specs.Step.{unchanged, handledTo, decided, stepOf, refusalOf, cacheAfter, Result, resultWith, resultOf}
 use Rattle.protocol.specs.declared.Answer.{Answer}
 use Rattle.protocol.specs.declared.Answer.the-variants.{Handled, Ignored, Refused}
 use Rattle.protocol.specs.declared.Outcome.{Outcome}
 use Rattle.record.specs.declared.Connection.{Connection}
 use Rattle.event.specs.declared.Input.{Input}
-use Rattle.protocol.proofs.Decided.{NoneOf, none-of}
+use Rattle.protocol.proofs.Faults.{NoneOf, none-of, none-first}
 
 -- What a call gets that changes nothing.
 abbrev pub still : Answer → Connection → (cache : List ℕ) → Result
@@ -56,7 +56,7 @@ module _ (limits : Limits) (connection : Connection) (call : Call) (cache : List
   result-by outcome e = ap (λ (o : Outcome). resultWith o (call .payload) (cacheAfter (o .answer) call cache)) e
 
   -- The outcome, by whether there is a refusal and whether the event is ignored.
-  outcome-by : (free skips : Bool) → eqb number 0 ≡ free → eqb next table.ignored ≡ skips
+  pub outcome-by : (free skips : Bool) → eqb number 0 ≡ free → eqb next table.ignored ≡ skips
       → decided limits connection (call .event .code) input ≡ cond free (cond skips (unchanged Ignored connection) (handledTo next connection (call .event .code) input)) (unchanged (Refused number) connection)
   unfolding decided
   outcome-by free skips e i = rw (e, i)
@@ -70,7 +70,7 @@ module _ (limits : Limits) (connection : Connection) (call : Call) (cache : List
   pub stepped : Stepped
   stepped = stepped-by (eqb number 0) (eqb next table.ignored) refl refl
 
--- What no fault of the arguments means. (Fault 6, of the suite lists, is not needed.)
+-- What the absence of faults 1 to 6 means. (Fault 6, of the suite lists, is not needed.)
 pub record Faultless (limits : Limits) (call : Call) (size : ℕ) : Type 0 where
   pub code : call .event .code < 24
   pub timer : inputOf limits call size .timer < 3
@@ -83,7 +83,7 @@ other-fails : (a b : Bool) → (a && b) ≡ false → T a → b ≡ false
 other-fails true b e t = e
 other-fails false b e t = absurd t
 
-pub faultless : (limits : Limits) (call : Call) (size : ℕ) → NoneOf (argumentFaults (call .event .code) (inputOf limits call size)) → Faultless limits call size
+pub faultless : (limits : Limits) (call : Call) (size : ℕ) → NoneOf (earlyFaults (call .event .code) (inputOf limits call size)) → Faultless limits call size
 unfolding inputBy
 faultless limits call size none = record {
   code = let h = ltb-false 23 (call .event .code) (none .0) in omega arith;
@@ -92,6 +92,13 @@ faultless limits call size none = record {
   payload = λ t. ltb-false (limits .payload) (length (call .payload)) (other-fails (carriesPayload (call .event .code)) _ (none .1 .1 .1 .0) t);
   cache = ltb-false size (limits .payload) (none .1 .1 .1 .1 .0);
 }
+
+-- So it is where no fault is present at all.
+pub unfaulted : (limits : Limits) (call : Call) (size : ℕ) (fault7 fault8 : Bool) → lowest (call .event .code) (inputOf limits call size) fault7 fault8 ≡ 0 → Faultless limits call size
+unfaulted limits call size fault7 fault8 e =
+    let code = call .event .code in
+    let read = inputOf limits call size in
+    faultless limits call size (none-first (earlyFaults code read) (fault7 ∷ fault8 ∷ lateFaults read) (none-of 0 (faults code read fault7 fault8) e))
 
 -- The length that is then read of a payload.
 pub payload-length : (limits : Limits) (call : Call) (size : ℕ) → Faultless limits call size → T (carriesPayload (call .event .code)) → inputOf limits call size .«payload_len» ≡ length (call .payload)
@@ -107,10 +114,12 @@ pub record Unrefused (limits : Limits) (connection : Connection) (call : Call) (
 pub unrefused : (limits : Limits) (connection : Connection) (call : Call) (cache : List ℕ) → number limits connection call cache ≡ 0 → Unrefused limits connection call cache
 unfolding refusal
 unrefused limits connection call cache e =
-    let n = none-of 0 (faults limits connection (call .event .code) (inputOf limits call (length cache))) e in
+    let code = call .event .code in
+    let read = inputOf limits call (length cache) in
+    let n = none-of 0 (faults code read (illFormed limits connection) (exhausted limits connection code read)) e in
     let last = n .1 .1 .1 .1 .1 .1 in
     record {
-      arguments = faultless limits call (length cache) (n .0, (n .1 .0, (n .1 .1 .0, (n .1 .1 .1 .0, (n .1 .1 .1 .1 .0, (n .1 .1 .1 .1 .1 .0, tt))))));
+      arguments = unfaulted limits call (length cache) (illFormed limits connection) (exhausted limits connection code read) e;
       well = subst⁻¹ T (not-false (wellFormed limits connection) (last .0)) tt;
       room = λ s. other-fails (not (eqb (next limits connection call cache) table.ignored)) (eqb (connection .handled) (limits .handled)) (last .1 .0) (subst⁻¹ (λ (b : Bool). T (not b)) s tt);
     }

@@ -5,7 +5,7 @@ use mathlib.Core.Bool.{Bool, true, false}
 use mathlib.Core.List.{List, [], _∷_}
 use lib.IntN.{ℤ, pos, negsuc}
 use lib.ListN.{getD, replicate}
-use Rattle.token.specs.SecondsLeft.{secondsLeft}
+use Rattle.token.specs.Answer.{left, timeLeft}
 use Rattle.event.specs.Call.{Call, callOf}
 use Rattle.record.specs.Limits.{limits}
 use Rattle.protocol.specs.Orders as order
@@ -16,9 +16,9 @@ use Rattle.protocol.specs.declared.Answer.{Answer}
 use Rattle.protocol.specs.declared.Answer.the-variants.{Handled, Ignored}
 use Rattle.event.specs.declared.Event.{Event}
 
--- An event with these fields; the others are 0.
+-- An event with these fields; the others are 0, the margin of document 01's cases with them.
 abbrev pub event : (code tag bit : ℕ) (verdict : Bool) (expiry now : ℤ) → Event
-event code tag bit verdict expiry now = record { code = code; tag = tag; timer = 0; bit = bit; verdict = verdict; expiry = expiry; now = now }
+event code tag bit verdict expiry now = record { code = code; tag = tag; timer = 0; bit = bit; verdict = verdict; margin = 0; expiry = expiry; now = now }
 
 -- A call without payload and lists.
 abbrev pub plain : (code tag bit : ℕ) → Call
@@ -87,12 +87,12 @@ noResult = record { outcome = unchanged Ignored fresh; cache = []; part = [] }
 -- A case: the call at a place of a list of calls, from fresh with a cache of 4,096 zeros; or a token's seconds left.
 pub data Case : Type 0 where
   call : List Call → (place : ℕ) → Told → Case
-  left : (expiry now seconds : ℤ) → Case
+  time : (expiry now seconds : ℤ) → Case
 
 -- The case holds of the definitions.
 unfoldable pub Holds : Case → Type 0
 Holds (call calls place t) = toldOf (getD (resultsOf limits fresh (replicate (limits .payload) 0) calls) place noResult) ≡ t
-Holds (left expiry now seconds) = secondsLeft expiry now ≡ seconds
+Holds (time expiry now seconds) = timeLeft expiry now 0 ≡ left seconds
 
 -- So do all of a list.
 unfoldable pub AllHold : List Case → Type 0
@@ -121,7 +121,7 @@ cases =
     ∷ call boot 8 (told 3 7 Handled order.none 0 0 0 [])
     ∷ call boot 9 (told 7 8 Handled order.none 0 0 0 [])
     ∷ call (plain 0 0 0 ∷ hello (pos 1000) ∷ []) 1 (told 9 2 Handled order.CLOSE 0 0 0 [])
-    ∷ left (pos 1000) (pos 1000) (pos 0)
-    ∷ left largest smallest (pos 86400)
-    ∷ left smallest largest (negsuc 86399)
+    ∷ time (pos 1000) (pos 1000) (pos 0)
+    ∷ time largest smallest (pos 86400)
+    ∷ time smallest largest (negsuc 86399)
     ∷ []

@@ -10,7 +10,7 @@ use Rattle.event.specs.Kind.{named}
 use Rattle.record.specs.Limits.{Limits}
 use Rattle.record.specs.Timer.{Timer, H, HP, HV, DAT, RA, ACK}
 use Rattle.table.specs.Sets.{isIn}
-use Rattle.protocol.specs.Faults.{argumentFaults, firstFault}
+use Rattle.protocol.specs.Faults.{lowest}
 use Rattle.protocol.specs.Notes.{Opening, fresh, helloSent, opened, locked, off, running, good, Notes, isFresh, isHelloSent, isOpen, isRunning, isGood, isMissing, attested}
 use Rattle.protocol.specs.declared.Answer.{Answer}
 use Rattle.protocol.specs.declared.Answer.the-variants.{Handled, Ignored, Refused}
@@ -209,16 +209,21 @@ abbrev pub countsCall : Limits → (cacheLength : ℕ) → History → Call → 
 countsCall limits cacheLength history call =
     counts (history .notes) (call .event .code) (hear history (inputOf limits call cacheLength))
 
--- Refused if the arguments have one of faults 1 to 6, or if the event counts and the count is the largest;
--- else handled if it counts, ignored if not.
-abbrev pub answerBy : (free takes full : Bool) (fault : ℕ) → Answer
-answerBy free takes full fault = cond free (cond takes (cond full (Refused 8) Handled) Ignored) (Refused fault)
+-- The number of a call's refusal, 0 for none: that of a fault of the arguments, or 8 if the event counts and the count is the largest.
+-- There is no fault 7 without a record.
+unfoldable pub refusalTo : Limits → (cacheLength : ℕ) → History → Call → ℕ
+refusalTo limits cacheLength history call =
+    lowest (call .event .code) (inputOf limits call cacheLength) false
+    (countsCall limits cacheLength history call && eqb (history .count) (limits .handled))
+
+-- Refused with that number, else handled if the event counts, ignored if not.
+abbrev pub answerBy : (refusal : ℕ) (takes : Bool) → Answer
+answerBy refusal takes = cond (eqb refusal 0) (cond takes Handled Ignored) (Refused refusal)
 
 -- What the history says of a call.
 unfoldable pub answerTo : Limits → (cacheLength : ℕ) → History → Call → Answer
 answerTo limits cacheLength history call =
-    let fault = firstFault 1 (argumentFaults (call .event .code) (inputOf limits call cacheLength)) in
-    answerBy (eqb fault 0) (countsCall limits cacheLength history call) (eqb (history .count) (limits .handled)) fault
+    answerBy (refusalTo limits cacheLength history call) (countsCall limits cacheLength history call)
 
 -- A call that is refused or ignored isn't counted and moves no note.
 abbrev pub keep : Answer → (before after : History) → History

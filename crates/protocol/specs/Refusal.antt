@@ -1,24 +1,23 @@
--- Document 01, "Refusal numbers": the eight faults in their order; those of the arguments are in `Faults`.
+-- Document 01, "Refusal numbers": what a record and a call are refused with. The faults of the arguments, and the order of all, are in `Faults`.
 use Prim.Native.Nat.{ℕ}
 use mathlib.Core.Bool.{Bool, not, _&&_}
-use mathlib.Core.List.{List, [], _∷_, _++_}
 use lib.Dec.{eqb}
 use Rattle.record.specs.Limits.{Limits}
 use Rattle.table.specs.Table.{ignored}
 use Rattle.protocol.specs.Condition.{nextState}
 use Rattle.record.specs.WellFormed.{wellFormed}
-use Rattle.protocol.specs.Faults.{argumentFaults, firstFault}
+use Rattle.protocol.specs.Faults.{lowest}
 use Rattle.record.specs.declared.Connection.{Connection}
 use Rattle.event.specs.declared.Input.{Input}
 
--- Fault 7: the record is not well formed. Fault 8: the event would be handled, and the number is the largest.
-abbrev pub faults : Limits → Connection → (code : ℕ) → Input → List Bool
-faults limits connection code input =
-    argumentFaults code input
-    ++ (not (wellFormed limits connection)
-    ∷ (not (eqb (nextState connection code input) ignored) && eqb (connection .handled) (limits .handled))
-    ∷ [])
+-- Fault 7: the record is not well formed.
+abbrev pub illFormed : Limits → Connection → Bool
+illFormed limits connection = not (wellFormed limits connection)
 
--- The lowest number whose fault is present, 0 for none.
+-- Fault 8: the event would be handled, and the number is the largest.
+abbrev pub exhausted : Limits → Connection → (code : ℕ) → Input → Bool
+exhausted limits connection code input = not (eqb (nextState connection code input) ignored) && eqb (connection .handled) (limits .handled)
+
+-- The number of the refusal, 0 for none.
 unfoldable pub refusal : Limits → Connection → (code : ℕ) → Input → ℕ
-refusal limits connection code input = firstFault 1 (faults limits connection code input)
+refusal limits connection code input = lowest code input (illFormed limits connection) (exhausted limits connection code input)

@@ -18,3 +18,5 @@ pub const LIST_TOO_LONG: u32 = 6;
 pub const NOT_WELL_FORMED: u32 = 7;
 
 pub const NUMBER_EXHAUSTED: u32 = 8;
+
+pub const MARGIN_TOO_LARGE: u32 = 9;

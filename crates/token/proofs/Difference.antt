@@ -9,7 +9,7 @@ use lib.IntN.{ℤ, pos, negsuc, _-ℤ_}
 use lib.Signed.{ltZ}
 use mir.Syntax.{w64}
 use mir.Val.{SFits, toZ, ofZ}
-use mir.Facts.{toZ-ofZ}
+use mir.Facts.{toZ-ofZ, toZ-pos}
 
 abbrev Gap : ℤ → ℕ → ℕ → Type 0
 Gap (pos n) a b = n + b ≡ a
@@ -76,6 +76,10 @@ fits {z = negsuc n} p h l = omega arith
 -- What the machine reads back from the bits of a number that fits.
 pub held : {z : ℤ} {a b : ℕ} → Diff z a b → SFits w64 z → Diff (toZ w64 (ofZ w64 z)) a b
 held p h = rw (toZ-ofZ h) p
+
+-- What it reads from the bits of a natural number below 2^63.
+pub natural : {n : ℕ} → n < 2 ^ 63 → Diff (toZ w64 n) n 0
+natural h = rw (toZ-pos w64 h) (parts (pos _))
 
 -- An argument as the machine reads it, with its bounds, which omega finds.
 pub record Word (z : ℤ) : Type 0 where

@@ -1,2 +1,4 @@
 pub mod SecondsLeft
+pub mod Answer
+pub mod Numbers
 pub mod Good

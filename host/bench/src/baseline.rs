@@ -6,6 +6,7 @@ use menhotrac::raw::{Actions, Connection, Event, Lists, HANDLED, IGNORED, WRONG_
 const MAX_PAYLOAD: usize = 4096;
 const MAX_SUITES: usize = 16;
 const DAY: i64 = 86_400;
+const MAX_MARGIN: u32 = 300;
 
 const HELLO: u32 = 1;
 const CLOSE: u32 = 2;
@@ -26,6 +27,7 @@ const OF_EVENT: u32 = 1;
 const OF_CACHE: u32 = 2;
 
 const NUMBER_EXHAUSTED: u32 = 8;
+const MARGIN_TOO_LARGE: u32 = 9;
 
 const NO_ACTIONS: Actions = Actions {
     message: 0,
@@ -297,18 +299,14 @@ fn handshake_timeout(c: &mut Connection, e: &Event, a: &mut Actions) -> u32 {
 
 fn hello(c: &mut Connection, e: &Event, lists: &Lists, a: &mut Actions) -> u32 {
     if c.state != 1 {
-        return if e.verdict > 1 {
-            WRONG_VERDICT
-        } else {
-            IGNORED
-        };
+        return token_fault(e).unwrap_or(IGNORED);
     }
     let n = match c.handled.checked_add(1) {
         Some(n) => n,
         None => return NUMBER_EXHAUSTED,
     };
-    if e.verdict > 1 {
-        return WRONG_VERDICT;
+    if let Some(fault) = token_fault(e) {
+        return fault;
     }
     let seconds = good_seconds(e);
     let verifier = first_common(lists.our_verifiers, lists.peer_provers);
@@ -342,8 +340,23 @@ fn first_common(verifiers: &[u32], provers: &[u32]) -> Option<u32> {
         .find(|suite| provers.contains(suite))
 }
 
+/// What is refused of a token after the faults 1 to 8.
+fn token_fault(e: &Event) -> Option<u32> {
+    if e.margin > MAX_MARGIN {
+        Some(MARGIN_TOO_LARGE)
+    } else if e.verdict > 1 {
+        Some(WRONG_VERDICT)
+    } else {
+        None
+    }
+}
+
 fn good_seconds(e: &Event) -> u32 {
-    let left = e.expiry.saturating_sub(e.now).clamp(-DAY, DAY);
+    let left = e
+        .expiry
+        .saturating_sub(e.now)
+        .saturating_sub(e.margin.into());
+    let left = left.clamp(-DAY, DAY);
     if e.verdict == 1 && left >= 1 {
         left as u32
     } else {
@@ -353,18 +366,14 @@ fn good_seconds(e: &Event) -> u32 {
 
 fn renew_token(c: &mut Connection, e: &Event, a: &mut Actions) -> u32 {
     if c.state != 5 && c.state != 6 {
-        return if e.verdict > 1 {
-            WRONG_VERDICT
-        } else {
-            IGNORED
-        };
+        return token_fault(e).unwrap_or(IGNORED);
     }
     let n = match c.handled.checked_add(1) {
         Some(n) => n,
         None => return NUMBER_EXHAUSTED,
     };
-    if e.verdict > 1 {
-        return WRONG_VERDICT;
+    if let Some(fault) = token_fault(e) {
+        return fault;
     }
     let seconds = good_seconds(e);
     if seconds == 0 {

@@ -7,6 +7,7 @@ use model::{code, Edition, Record};
 
 const NOW: i64 = 1_000;
 const EXPIRY: i64 = 1_060;
+const MARGIN: u32 = 30;
 const YES: u32 = 1;
 pub const CACHE_LEN: usize = 4096;
 const LISTS: Lists = Lists {
@@ -45,6 +46,7 @@ impl Call {
             timer,
             bit,
             verdict,
+            margin,
             expiry,
             now,
         } = self.event;
@@ -61,6 +63,7 @@ impl Call {
                 timer,
                 bit,
                 verdict: verdict == YES,
+                margin,
                 expiry,
                 now,
             },
@@ -145,6 +148,7 @@ impl Recorder {
                 code,
                 tag,
                 verdict: YES,
+                margin: MARGIN,
                 expiry: EXPIRY,
                 now: NOW,
                 ..Event::default()

@@ -36,11 +36,17 @@ fn ask_fresh() -> Checked<()> {
     same("the fresh records differ", &(), model, raw::fresh())
 }
 
+/// Seconds that are refused come back as 0.
 fn ask_seconds(random: &mut Random) -> Checked<()> {
     let (expiry, now) = tokens::any_times(random);
-    let model = model::seconds_left(expiry, now);
-    let product = raw::seconds_left(expiry, now);
-    let given = (("expiry", expiry), ("now", now));
+    let margin = tokens::margin(random);
+    let model = match model::seconds_left(expiry, now, margin) {
+        Ok(seconds) => (0, seconds),
+        Err(number) => (number, 0),
+    };
+    let left = raw::seconds_left(expiry, now, margin);
+    let product = (left.refusal, left.seconds);
+    let given = (("expiry", expiry), ("now", now), ("margin", margin));
     same("the seconds left differ", &given, model, product)
 }
 

@@ -26,6 +26,7 @@ impl Arguments<'_> {
                 timer: event.timer,
                 bit: event.bit,
                 verdict: event.verdict == 1,
+                margin: event.margin,
                 expiry: event.expiry,
                 now: event.now,
             },

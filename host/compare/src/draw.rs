@@ -13,15 +13,16 @@ use model::{code, Record, MOST_BYTES};
 /// Arguments for an event of this code, aimed at the record.
 pub fn arguments<'a>(session: &mut Session<'a>, record: &Record, code: u32) -> Arguments<'a> {
     let timer = timer(&mut session.random, record);
-    let (expiry, now) = tokens::mostly_good_times(&mut session.random);
+    let token = tokens::mostly_good(&mut session.random);
     let event = raw::Event {
         code,
         tag: tag(&mut session.random, record, code, timer),
         timer,
         bit: bit(&mut session.random, record, code),
-        verdict: tokens::verdict(&mut session.random),
-        expiry,
-        now,
+        verdict: token.verdict,
+        margin: token.margin,
+        expiry: token.expiry,
+        now: token.now,
     };
     let suites = if code == code::SC_HELLO {
         SuiteLists::draw(&mut session.random)

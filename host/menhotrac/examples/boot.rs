@@ -8,6 +8,7 @@ use menhotrac::{
 
 const TOKEN: Token = Token {
     verdict: true,
+    margin: 0,
     expiry: 1_060,
     now: 1_000,
 };

@@ -23,6 +23,7 @@ impl<'a> Call<'a> {
                 timer: 0,
                 bit: 0,
                 verdict: 0,
+                margin: 0,
                 expiry: 0,
                 now: 0,
             },
@@ -54,6 +55,7 @@ impl<'a> Call<'a> {
     pub const fn token(code: u32, token: Token) -> Self {
         let mut call = Self::plain(code);
         call.event.verdict = token.verdict as u32;
+        call.event.margin = token.margin;
         call.event.expiry = token.expiry;
         call.event.now = token.now;
         call

@@ -108,7 +108,7 @@ impl Connection {
     ///
     /// /// Stands for the check of signature and content.
     /// fn check(token: &[u8]) -> Token {
-    ///     Token { verdict: token == b"token", expiry: 1_060, now: 1_000 }
+    ///     Token { verdict: token == b"token", margin: 0, expiry: 1_060, now: 1_000 }
     /// }
     ///
     /// fn arrives<'a>(
@@ -171,7 +171,7 @@ impl Connection {
     }
 }
 
-/// The refusal with a number. The archive gives 4 to 8 here, since typed events and messages cannot have the faults 1
+/// The refusal with a number. The archive gives 4 to 9 here, since typed events and messages cannot have the faults 1
 /// to 3 or 41; any other number means that archive and bindings do not belong together.
 #[cold]
 fn refusal(number: u32) -> Refusal {

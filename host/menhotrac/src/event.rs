@@ -98,7 +98,7 @@ pub enum Event<'a> {
         /// The tag of its start.
         tag: Tag,
     },
-    /// 21: the DAT timer has run out: the peer's token has expired.
+    /// 21: the DAT timer has run out: the peer's token is spent.
     DatTimeout(Tag),
     /// 22: the RA timer has run out: the peer is to be attested anew.
     RaTimeout(Tag),

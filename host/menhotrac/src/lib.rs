@@ -7,7 +7,8 @@
 //! A host keeps a [`Connection`] and a cache of [`CACHE_LEN`] bytes for each peer. Whatever happens is an [`Event`]:
 //! the host makes one call of [`Connection::step`] and carries out the [`Actions`]. Bytes of the peer go to
 //! [`Connection::receive`], which reads the message and makes the step; [`Received::read`] gives the token that a host
-//! has to check before. "Document 01" in comments is the paper that fixes states, events, refusals and the order sheet.
+//! has to check before. "Document 01" in comments is the paper that fixes states, events, refusals and the order sheet,
+//! as its change requests amend it.
 //!
 //! # Example
 //!
@@ -62,7 +63,7 @@
 //! host.handle(&mut connection, Event::UpperStartHandshake, &mut cache);
 //!
 //! // The peer's HELLO has come. The host has checked its token.
-//! let token = Token { verdict: true, expiry: 1_060, now: 1_000 };
+//! let token = Token { verdict: true, margin: 0, expiry: 1_060, now: 1_000 };
 //! let lists = Lists {
 //!     our_verifiers: &[7, 3],
 //!     peer_provers: &[3, 7],
@@ -115,4 +116,4 @@ pub use state::State;
 pub use suite_list::SuiteList;
 pub use suites::{choose_suites, Choice, Lists, OurLists, Suites, MAX_LIST_LEN};
 pub use tag::{Tag, Tags};
-pub use token::{seconds_left, Token};
+pub use token::{seconds_left, Token, MAX_MARGIN};

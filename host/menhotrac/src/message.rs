@@ -19,7 +19,7 @@ pub enum Message {
     Hello,
     /// CLOSE.
     Close,
-    /// DAT_EXPIRED: the peer's token has expired.
+    /// DAT_EXPIRED: the peer's token is spent.
     DatExpired,
     /// DAT, to which the host adds its token.
     Dat,

@@ -48,6 +48,9 @@ pub struct Event {
     pub bit: u32,
     /// Of the codes 11 and 13: 0 no, 1 yes; any other number is refused with `WRONG_VERDICT`.
     pub verdict: u32,
+    /// Of the codes 11 and 13: how many seconds before its expiry the token counts as spent, 0 to
+    /// [`MAX_MARGIN`](crate::MAX_MARGIN).
+    pub margin: u32,
     /// Of the codes 11 and 13: when the token expires, in seconds.
     pub expiry: i64,
     /// Of the codes 11 and 13: the time now, in seconds.
@@ -82,6 +85,8 @@ pub struct OurLists<'a> {
 pub struct Token {
     /// 0 no, 1 yes; any other number is refused with `WRONG_VERDICT`.
     pub verdict: u32,
+    /// How many seconds before its expiry the token counts as spent, 0 to [`MAX_MARGIN`](crate::MAX_MARGIN).
+    pub margin: u32,
     /// When the token expires, in seconds.
     pub expiry: i64,
     /// The time now, in seconds.
@@ -124,6 +129,15 @@ pub struct Actions {
     pub payload_slice: u32,
     /// The length of the payload part, from the slice's first byte.
     pub payload_len: u32,
+}
+
+/// The seconds left of a token, asked alone.
+#[derive(Clone, Copy, Debug, Default, PartialEq, Eq)]
+pub struct TimeLeft {
+    /// 0 for none, 9 where the margin is above 300.
+    pub refusal: u32,
+    /// The seconds, 0 where they are refused.
+    pub seconds: i64,
 }
 
 /// The choice of suites, asked alone. The suites are 0 where they were not found or the choice was refused.
@@ -193,7 +207,8 @@ pub type SuiteEntries = [u32; MAX_LIST_LEN];
 pub const NOT_REFUSED: u32 = 0;
 /// The answer to a handled call.
 pub const HANDLED: u32 = 0;
-/// The refusal of a verdict that is neither 0 nor 1. The numbers from 1 to 8 are document 01's refusals.
+/// The refusal of a verdict that is neither 0 nor 1. The numbers from 1 to 9 are those of
+/// [`Refusal`](crate::Refusal).
 pub const WRONG_VERDICT: u32 = 41;
 /// The answer to an ignored call.
 pub const IGNORED: u32 = 100;
@@ -219,7 +234,7 @@ extern "C" {
         our_provers_len: usize,
     ) -> u32;
 
-    fn menhotrac_seconds_left(expiry: i64, now: i64) -> i64;
+    fn menhotrac_seconds_left(expiry: i64, now: i64, margin: u32, seconds: *mut i64) -> u32;
 
     fn menhotrac_choose_suites(
         our_verifiers: *const u32,
@@ -250,8 +265,10 @@ const _: () = {
     assert!(size_of::<Actions>() == 16 * 4 && align_of::<Actions>() == 4);
     assert!(offset_of!(Actions, deliver) == 11 * 4 && offset_of!(Actions, payload_len) == 15 * 4);
     assert!(size_of::<Event>() == 40 && align_of::<Event>() == 8);
-    assert!(offset_of!(Event, verdict) == 16 && offset_of!(Event, expiry) == 24);
+    assert!(offset_of!(Event, verdict) == 16 && offset_of!(Event, margin) == 20);
+    assert!(offset_of!(Event, expiry) == 24 && offset_of!(Event, now) == 32);
     assert!(size_of::<Token>() == 24 && align_of::<Token>() == 8);
+    assert!(offset_of!(Token, verdict) == 0 && offset_of!(Token, margin) == 4);
     assert!(offset_of!(Token, expiry) == 8 && offset_of!(Token, now) == 16);
     assert!(size_of::<Message>() == 48 && align_of::<Message>() == 8);
     assert!(offset_of!(Message, bit) == 8 && offset_of!(Message, provers) == 16);
@@ -304,10 +321,12 @@ pub fn step(
     }
 }
 
-/// Expiry minus now, clamped to a day either way.
-pub fn seconds_left(expiry: i64, now: i64) -> i64 {
-    // SAFETY: numbers alone.
-    unsafe { menhotrac_seconds_left(expiry, now) }
+/// Expiry minus now minus margin, clamped to a day either way; or the refusal of the margin.
+pub fn seconds_left(expiry: i64, now: i64, margin: u32) -> TimeLeft {
+    let mut seconds = 0;
+    // SAFETY: the pointer is to a number, lent for the call alone.
+    let refusal = unsafe { menhotrac_seconds_left(expiry, now, margin, &mut seconds) };
+    TimeLeft { refusal, seconds }
 }
 
 /// The choice of suites.

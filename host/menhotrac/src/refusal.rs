@@ -27,6 +27,8 @@ numbered! {
         NotWellFormed = 7,
         /// The event would be handled, and the number of handled events is at its end.
         NumberExhausted = 8,
+        /// The margin of a token is above [`MAX_MARGIN`](crate::MAX_MARGIN).
+        MarginTooLarge = 9,
     }
 }
 
@@ -41,6 +43,7 @@ impl Refusal {
             Self::ListTooLong => "a suite list has more than 16 entries",
             Self::NotWellFormed => "the record is not well formed",
             Self::NumberExhausted => "the number of handled events is at its end",
+            Self::MarginTooLarge => "the margin is above 300 seconds",
         }
     }
 }

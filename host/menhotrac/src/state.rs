@@ -15,9 +15,9 @@ numbered! {
         WaitForRaProver = 3,
         /// Only the verifier runs.
         WaitForRaVerifier = 4,
-        /// The peer's token has expired, and the prover runs.
+        /// The peer's token is spent, and the prover runs.
         WaitForDatAndRa = 5,
-        /// The peer's token has expired, and the prover's run is good.
+        /// The peer's token is spent, and the prover's run is good.
         WaitForDatAndRaVerifier = 6,
         /// Blocks can be sent and taken.
         Established = 7,

@@ -9,6 +9,7 @@ use crate::wire::Message;
 #[derive(Clone, Copy, Debug, Default, PartialEq, Eq)]
 pub struct Given<'a> {
     pub verdict: bool,
+    pub margin: u32,
     pub expiry: i64,
     pub now: i64,
     pub our_verifiers: &'a [u32],
@@ -21,6 +22,7 @@ pub fn call_of<'a>(message: &'a Message<'a>, given: &Given<'a>) -> Call<'a> {
         event: Event {
             code: code_of(message),
             verdict: given.verdict,
+            margin: given.margin,
             expiry: given.expiry,
             now: given.now,
             ..Event::default()

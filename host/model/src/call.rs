@@ -40,6 +40,8 @@ pub struct Event {
     pub timer: u32,
     pub bit: u32,
     pub verdict: bool,
+    /// By how many seconds the token is "treated as spent a little early".
+    pub margin: u32,
     pub expiry: i64,
     pub now: i64,
 }
@@ -59,7 +61,8 @@ pub(crate) fn carries_payload(code: u32) -> bool {
     matches!(code, 2 | 6 | 9 | 15 | 16 | 18)
 }
 
-/// "11 and 13 the host's verdict on the token, its expiry and the time now."
+/// "11 and 13 the host's verdict on the token, its expiry and the time now", and
+/// a margin, "given with events 11 and 13".
 pub fn carries_token(code: u32) -> bool {
     matches!(code, 11 | 13)
 }
@@ -73,9 +76,15 @@ pub struct Call<'a> {
 }
 
 impl Call<'_> {
+    /// What is left of the token of an event 11 or 13; 0 if its margin is refused.
+    pub(crate) fn seconds_left(&self) -> i64 {
+        let event = &self.event;
+        token::seconds_left(event.expiry, event.now, event.margin).unwrap_or(0)
+    }
+
     /// Whether the token of an event 11 or 13 is good.
     pub(crate) fn good_token(&self) -> bool {
-        token::is_good(self.event.verdict, self.event.expiry, self.event.now)
+        token::is_good(self.event.verdict, self.seconds_left())
     }
 
     /// Whether an event 11 opens: "the token is good and both suites are found".

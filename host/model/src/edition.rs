@@ -1,4 +1,4 @@
-//! Document 01 as printed, and with request #102.
+//! RA as document 01 prints it, and as request #102 mends it.
 
 /// The rules for RA, the re-attestation timer; nothing else differs.
 #[derive(Clone, Copy, Debug, PartialEq, Eq)]

@@ -1,4 +1,4 @@
-//! Document 01 read into plain Rust.
+//! Document 01 read into plain Rust, with the margin of request #104.
 //!
 //! Each file follows one section of the paper, sentence by sentence, and
 //! nothing is tuned. The library is proved from definitions of its own; this
@@ -40,4 +40,4 @@ pub use refusal::{fault, refusal};
 pub use step::{step, Answer};
 pub use suites::{choose, Lists, Suites, MOST_SUITES};
 pub use table::{live, transitions};
-pub use token::seconds_left;
+pub use token::{seconds_left, MOST_MARGIN};

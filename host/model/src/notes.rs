@@ -32,7 +32,7 @@ enum Attestation {
     Good,
 }
 
-#[derive(Clone, Debug, Default)]
+#[derive(Clone, Debug, Default, PartialEq, Eq)]
 struct Block {
     waiting: bool,
     next_send: u32,
@@ -61,7 +61,7 @@ const RUNNERS: [Runner; 6] = [
 ];
 
 /// The five notes, the count, and the count at the latest start of each runner.
-#[derive(Clone, Debug, Default)]
+#[derive(Clone, Debug, Default, PartialEq, Eq)]
 pub struct Notes {
     opening: Opening,
     token: Token,
@@ -115,15 +115,19 @@ impl Notes {
         }
     }
 
+    /// Refused if the arguments have a fault, "or if its event counts and the
+    /// count is the number that refusal 8 names". "Else it is handled if its event
+    /// counts, and ignored if not."
     fn answer(&self, call: &Call, cache_len: usize) -> Answer {
-        if let Some(number) = (1..=6).find(|&n| argument_fault(n, call, cache_len)) {
-            Answer::Refused(number)
-        } else if !self.counts(call) {
-            Answer::Ignored
-        } else if self.counted == u32::MAX {
-            Answer::Refused(8)
-        } else {
-            Answer::Handled
+        let counts = self.counts(call);
+        let fault = |number| match number {
+            8 => counts && self.counted == u32::MAX,
+            _ => argument_fault(number, call, cache_len),
+        };
+        match (1..=9).find(|&number| fault(number)) {
+            Some(number) => Answer::Refused(number),
+            None if counts => Answer::Handled,
+            None => Answer::Ignored,
         }
     }
 
@@ -295,28 +299,91 @@ impl Block {
 
 #[cfg(test)]
 mod tests {
-    use super::Notes;
+    use super::{Attestation, Notes, Opening, Token};
     use crate::call::{code, Call, Event};
     use crate::step::Answer;
+    use crate::suites::Lists;
+
+    /// A call whose token has 60 seconds less the margin, and whose suites are found.
+    fn call(code: u32, margin: u32) -> Call<'static> {
+        Call {
+            event: Event {
+                code,
+                verdict: true,
+                margin,
+                expiry: 1_060,
+                now: 1_000,
+                ..Event::default()
+            },
+            payload: &[],
+            lists: Lists {
+                our_verifiers: &[3],
+                peer_provers: &[3],
+                peer_verifiers: &[3],
+                our_provers: &[3],
+            },
+        }
+    }
+
+    /// Notes with the prover running and nothing counted.
+    fn notes(opening: Opening, token: Token) -> Notes {
+        Notes {
+            opening,
+            token,
+            prover: Attestation::Running,
+            ..Notes::new()
+        }
+    }
 
     #[test]
     fn full_count_refuses_only_what_would_count() {
-        let mut notes = Notes {
-            counted: u32::MAX,
-            ..Notes::new()
-        };
-        let mut answer_to = |code| {
-            let event = Event {
-                code,
-                ..Event::default()
-            };
-            let call = Call {
-                event,
-                ..Call::default()
-            };
-            notes.hear(&call, 4_096).answer
-        };
-        assert_eq!(answer_to(code::UPPER_CLOSE), Answer::Ignored);
-        assert_eq!(answer_to(code::UPPER_START_HANDSHAKE), Answer::Refused(8));
+        let fresh = notes(Opening::Fresh, Token::None);
+        let greeted = notes(Opening::Greeted, Token::None);
+        let missing = notes(Opening::Open, Token::Missing);
+        for (before, code, margin, answer) in [
+            (&fresh, code::UPPER_CLOSE, 0, Answer::Ignored),
+            (&fresh, code::UPPER_START_HANDSHAKE, 0, Answer::Refused(8)),
+            (&fresh, code::SC_HELLO, 301, Answer::Refused(9)),
+            (&greeted, code::SC_HELLO, 301, Answer::Refused(8)),
+            (&greeted, code::SC_DAT, 301, Answer::Refused(9)),
+            (&missing, code::SC_HELLO, 301, Answer::Refused(9)),
+            (&missing, code::SC_DAT, 301, Answer::Refused(8)),
+        ] {
+            let mut full = before.clone();
+            full.counted = u32::MAX;
+            let predicted = full.hear(&call(code, margin), 4_096);
+            assert_eq!(predicted.answer, answer, "{code} {before:?}");
+        }
+    }
+
+    #[test]
+    fn good_bad_and_failed_follow_the_margin() {
+        let hello = (notes(Opening::Greeted, Token::None), code::SC_HELLO);
+        let dat = (notes(Opening::Open, Token::Missing), code::SC_DAT);
+        for (before, code) in [hello, dat] {
+            for (margin, state) in [(0, 2), (59, 2), (60, 9), (300, 9)] {
+                let mut notes = before.clone();
+                let predicted = notes.hear(&call(code, margin), 4_096);
+                assert_eq!(predicted.state, state, "{code} with {margin}");
+            }
+        }
+    }
+
+    #[test]
+    fn refused_margin_moves_no_note() {
+        for before in [
+            notes(Opening::Fresh, Token::None),
+            notes(Opening::Greeted, Token::None),
+            notes(Opening::Open, Token::Current),
+            notes(Opening::Open, Token::Missing),
+            notes(Opening::Locked, Token::Current),
+        ] {
+            for (code, margin) in [(11, 301), (11, u32::MAX), (13, 301), (13, u32::MAX)] {
+                let mut notes = before.clone();
+                let predicted = notes.hear(&call(code, margin), 4_096);
+                assert_eq!(predicted.answer, Answer::Refused(9), "{code} {before:?}");
+                assert_eq!(notes, before);
+            }
+        }
     }
 }

@@ -1,10 +1,9 @@
 //! "Order sheet". The paper leaves the numbers in the slots free; these are the
 //! product's.
 
-use crate::call::{code, Event};
+use crate::call::code;
 use crate::table::Row;
 use crate::timers::Timer;
-use crate::token::seconds_left;
 use crate::turn::{Change, Turn};
 
 /// Messages to the peer.
@@ -87,8 +86,7 @@ impl Sheet {
             len,
         };
         if sheet.dat == timer::START {
-            let Event { expiry, now, .. } = turn.call.event;
-            sheet.dat_seconds = seconds_left(expiry, now) as u32;
+            sheet.dat_seconds = turn.call.seconds_left() as u32;
         }
         sheet
     }

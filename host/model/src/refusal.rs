@@ -1,11 +1,11 @@
-//! "Refusal numbers".
+//! "Refusal numbers", and refusal 9 of request #104.
 
-use crate::call::{carries_bit, carries_payload, code, Call};
+use crate::call::{carries_bit, carries_payload, carries_token, code, Call};
 use crate::edition::Edition;
 use crate::record::{Record, MOST_BYTES};
-use crate::table;
+use crate::{table, token};
 
-/// Whether the arguments have the fault of refusal `number`, one of 1 to 6.
+/// Whether the arguments have the fault of refusal `number`, "other than 7 and 8".
 pub(crate) fn argument_fault(number: u32, call: &Call, cache_len: usize) -> bool {
     let event = &call.event;
     match number {
@@ -15,6 +15,7 @@ pub(crate) fn argument_fault(number: u32, call: &Call, cache_len: usize) -> bool
         4 => carries_payload(event.code) && call.payload.len() > MOST_BYTES as usize,
         5 => cache_len < MOST_BYTES as usize,
         6 => event.code == code::SC_HELLO && call.lists.too_long(),
+        9 => carries_token(event.code) && token::too_large(event.margin),
         _ => false,
     }
 }
@@ -36,5 +37,5 @@ pub fn fault(
 
 /// "The lowest whose fault is present is given, else none."
 pub fn refusal(edition: Edition, record: &Record, call: &Call, cache_len: usize) -> Option<u32> {
-    (1..=8).find(|&number| fault(number, edition, record, call, cache_len))
+    (1..=9).find(|&number| fault(number, edition, record, call, cache_len))
 }

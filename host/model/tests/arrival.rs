@@ -6,6 +6,7 @@ use model::{Call, Event, Lists};
 
 const GIVEN: Given = Given {
     verdict: true,
+    margin: 10,
     expiry: 1_060,
     now: 1_000,
     our_verifiers: &[7, 3],
@@ -19,6 +20,7 @@ fn is(bytes: &[u8], code: u32, bit: u32, payload: &[u8], peer: [&[u32]; 2]) {
         code,
         bit,
         verdict: true,
+        margin: 10,
         expiry: 1_060,
         now: 1_000,
         ..Event::default()

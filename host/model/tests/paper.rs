@@ -136,7 +136,7 @@ fn case_11_an_ended_token_locks_with_close() {
     let greeting = event(code::UPPER_START_HANDSHAKE);
     let results = run(&[greeting, hello(1_000, 1_000)], &mut zeros());
     let (answer, record, sheet) = results[1];
-    assert_eq!(seconds_left(1_000, 1_000), 0);
+    assert_eq!(seconds_left(1_000, 1_000, 0), Ok(0));
     assert_eq!(answer, Answer::Handled);
     assert_eq!((record.state, record.number), (9, 2));
     assert_eq!((sheet.message, sheet.h), (message::CLOSE, timer::CANCEL));
@@ -144,8 +144,35 @@ fn case_11_an_ended_token_locks_with_close() {
 
 #[test]
 fn case_12_the_furthest_times_are_clamped() {
-    assert_eq!(seconds_left(i64::MAX, i64::MIN), 86_400);
-    assert_eq!(seconds_left(i64::MIN, i64::MAX), -86_400);
+    assert_eq!(seconds_left(i64::MAX, i64::MIN, 0), Ok(86_400));
+    assert_eq!(seconds_left(i64::MIN, i64::MAX, 0), Ok(-86_400));
+}
+
+/// The boot run's token, given with a margin by the hello and, after DAT has run
+/// out, by event 13.
+#[test]
+fn margin_shortens_the_tokens_time() {
+    let [greeting, hello, ..] = boot_events();
+    let dat = Event {
+        code: code::SC_DAT,
+        ..hello
+    };
+    let timeout = tagged(code::DAT_TIMEOUT, 2);
+    for (margin, state, sent, seconds) in [
+        (0, 2, message::NONE, 60),
+        (10, 2, message::NONE, 50),
+        (59, 2, message::NONE, 1),
+        (60, 9, message::CLOSE, 0),
+        (300, 9, message::CLOSE, 0),
+    ] {
+        let opening = [greeting, Event { margin, ..hello }];
+        let renewal = [greeting, hello, timeout, Event { margin, ..dat }];
+        for events in [&opening[..], &renewal] {
+            let (_, record, sheet) = run(events, &mut zeros())[events.len() - 1];
+            let came = (record.state, sheet.message, sheet.dat_seconds);
+            assert_eq!(came, (state, sent, seconds), "{events:?}");
+        }
+    }
 }
 
 #[test]

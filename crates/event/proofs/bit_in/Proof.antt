@@ -12,5 +12,5 @@ bit-in-spec =
     tie.close
     (tie.spec
     (λ c. search needs)
-    (λ c. alike (λ kind. 0) (λ kind. fieldsOf kind .bit) (0 ∷ 1 ∷ 2 ∷ 4 ∷ []) (refl, (λ tag. refl, (λ tag timer. refl, λ verdict expiry now. refl))) (c .before .args .kind) (c .match .keys2))
+    (λ c. alike (λ kind. 0) (λ kind. fieldsOf kind .bit) (0 ∷ 1 ∷ 2 ∷ 4 ∷ []) (refl, (λ tag. refl, (λ tag timer. refl, λ verdict margin expiry now. refl))) (c .before .args .kind) (c .match .keys2))
     (λ c. search needs))

@@ -17,4 +17,5 @@ read-spec =
     (λ c κs. search needs)
     (λ c κs. search needs)
     (λ c κs. search needs)
-    (λ c. rw (c .payload-too-long .ensures, c .before .short-len .ensures, c .before .before .bit-in .ensures, c .before .before .before .timer-in .ensures, c .before .before .before .before .tag-in .ensures, c .before .before .before .before .before .seconds-in .ensures, good-seconds _, c .before .before .before .before .before .before .kind-of .ensures)))
+    (λ c κs. search needs)
+    (λ c. rw (c .payload-too-long .ensures, c .before .short-len .ensures, c .before .before .margin-too-large-in .ensures, c .before .before .before .bit-in .ensures, c .before .before .before .before .timer-in .ensures, c .before .before .before .before .before .tag-in .ensures, c .before .before .before .before .before .before .seconds-in .ensures, good-seconds _, c .before .before .before .before .before .before .before .kind-of .ensures)))

@@ -14,5 +14,5 @@ tag-in-spec =
     (tie.spec
     (λ c. search needs)
     (λ c κs. search needs)
-    (λ c. c .timeout-tag-in .ensures ∙ alike timeoutTag (λ kind. fieldsOf kind .tag) (0 ∷ 2 ∷ 3 ∷ 4 ∷ []) (refl, (λ tag timer. refl, (λ bit. refl, λ verdict expiry now. refl))) (c .before .before .args .kind) (c .before .match .keys2))
+    (λ c. c .timeout-tag-in .ensures ∙ alike timeoutTag (λ kind. fieldsOf kind .tag) (0 ∷ 2 ∷ 3 ∷ 4 ∷ []) (refl, (λ tag timer. refl, (λ bit. refl, λ verdict margin expiry now. refl))) (c .before .before .args .kind) (c .before .match .keys2))
     (λ c. search needs))

@@ -12,5 +12,5 @@ timeout-tag-in-spec =
     tie.close
     (tie.spec
     (λ c. search needs)
-    (λ c. alike (λ kind. 0) timeoutTag (0 ∷ 1 ∷ 3 ∷ 4 ∷ []) (refl, (λ tag. refl, (λ bit. refl, λ verdict expiry now. refl))) (c .before .args .kind) (c .match .keys2))
+    (λ c. alike (λ kind. 0) timeoutTag (0 ∷ 1 ∷ 3 ∷ 4 ∷ []) (refl, (λ tag. refl, (λ bit. refl, λ verdict margin expiry now. refl))) (c .before .args .kind) (c .match .keys2))
     (λ c. search needs))

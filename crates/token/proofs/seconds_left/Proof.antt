@@ -1,74 +1,163 @@
 -- `token::seconds_left` meets its contract: the first tests keep every subtraction within 64 bits, so what is clamped is the exact difference.
-use mathlib.Core.Path.{_≡_, subst, _∙_}
+use mathlib.Core.Path.{_≡_, sym, ap, _∙_}
+use mathlib.Core.Bool.{false}
 use mathlib.Core.Logic.{⊎-elim}
+use Prim.Native.Nat.{ℕ, _+_, _<_, _≤_, _^_}
 use native.Mathlib.Omega.{arith}
+use borrow.Author.Needs.{needs}
+use borrow.Author.Tests.{ltb-false}
 use lib.IntN.{ℤ, pos, negℤ, _-ℤ_}
 use mir.Syntax.{w64}
-use mir.Val.{toZ, ofZ}
-use mir.Facts.{toZ-ofZ}
-use Rattle.token.specs.SecondsLeft.{day, clamped, secondsLeft}
-use Rattle.token.proofs.Difference.{parts, less, not-less, is-less, is-not-less, minus, fits, held, word}
+use mir.Val.{SFits, toZ, ofZ}
+use mir.Facts.{toZ-ofZ, toZ-pos}
+use Rattle.token.specs.Answer.{left, timeLeft}
+use Rattle.token.specs.SecondsLeft.{day, secondsLeft, marginTooLarge}
+use Rattle.token.proofs.Difference.{Diff, above, below, parts, less, not-less, is-less, is-not-less, minus, fits, held, natural, word}
 use Rattle.token.proofs.seconds_left.Statement.{statement}
 use Rattle.token.proofs.seconds_left.Tie as tie
 
-sub-if2 : tie.Need-sub-if2
-sub-if2 c =
-    let e = word (c .before .fits .expiry) in
-    let negative = less (e .diff) (parts (pos 0)) (c .if1 .taken) in
-    fits (minus (e .diff) (parts (negℤ day))) (omega arith) (omega arith)
+-- Where the margin is taken.
+module _ (c : tie.Else1) where
+  abbrev expiry : ℤ
+  expiry = c .before .before .args .expiry
+
+  abbrev now : ℤ
+  now = c .before .before .args .now
+
+  abbrev margin : ℕ
+  margin = c .before .before .args .margin
+
+  taken : marginTooLarge margin ≡ false
+  taken = sym (c .before .margin-too-large .ensures) ∙ c .if1 .left
+
+  few : margin ≤ 300
+  few = ltb-false 300 margin taken
+
+  small : margin < 2 ^ 63
+  small = omega (arith, few)
+
+sub-least : tie.Need-sub-least
+sub-least c = fits (minus (natural (small c)) (parts day)) (omega (arith, few c)) (omega (arith, few c))
+
+sub-most : tie.Need-sub-most
+sub-most c = fits (minus (natural (small c)) (parts (negℤ day))) (omega (arith, few c)) (omega (arith, few c))
+
+-- The bounds of expiry minus now.
+module _ (c : tie.Else1) where
+  least : Diff (toZ w64 (ofZ w64 (toZ w64 (margin c) -ℤ day))) (margin c + 0) 86400
+  least = held (minus (natural (small c)) (parts day)) (sub-least c)
+
+  most : Diff (toZ w64 (ofZ w64 (toZ w64 (margin c) -ℤ negℤ day))) (margin c + 86400) 0
+  most = held (minus (natural (small c)) (parts (negℤ day))) (sub-most c)
 
 sub-if3 : tie.Need-sub-if3
 sub-if3 c =
-    let e = word (c .before .fits .expiry) in
-    let natural = not-less (e .diff) (parts (pos 0)) (c .if1 .left) in
-    fits (minus (e .diff) (parts day)) (omega arith) (omega arith)
+    let e = word (c .before .before .before .fits .expiry) in
+    let negative = less (e .diff) (parts (pos 0)) (c .if2 .taken) in
+    fits (minus (e .diff) (least (c .before))) (omega (arith, few (c .before))) (omega (arith, few (c .before)))
 
-sub-left : tie.Need-sub-left
-sub-left c =
-    let e = word (c .before .fits .expiry) in
-    let n = word (c .before .fits .now) in
+sub-if4 : tie.Need-sub-if4
+sub-if4 c =
+    let e = word (c .before .before .before .fits .expiry) in
+    let natural = not-less (e .diff) (parts (pos 0)) (c .if2 .left) in
+    fits (minus (e .diff) (most (c .before))) (omega (arith, few (c .before))) (omega (arith, few (c .before)))
+
+sub-apart : tie.Need-sub-apart
+sub-apart c =
+    let e = word (c .before .before .before .fits .expiry) in
+    let n = word (c .before .before .before .fits .now) in
+    let m = few (c .before) in
     ⊎-elim
     (λ w.
     let negative = less (e .diff) (parts (pos 0)) (w .0 .taken) in
-    let near = not-less (held (minus (e .diff) (parts (negℤ day))) (sub-if2 record { before = c .before; if1 = w .0 })) (n .diff) (w .1 .left) in
-    fits (minus (e .diff) (n .diff)) (omega arith) (omega arith))
+    let near = not-less (held (minus (e .diff) (least (c .before))) (sub-if3 record { before = c .before; if2 = w .0 })) (n .diff) (w .1 .left) in
+    fits (minus (e .diff) (n .diff)) (omega (arith, m)) (omega (arith, m)))
     (λ w.
     let natural = not-less (e .diff) (parts (pos 0)) (w .0 .left) in
-    let near = not-less (n .diff) (held (minus (e .diff) (parts day)) (sub-if3 record { before = c .before; if1 = w .0 })) (w .1 .left) in
-    fits (minus (e .diff) (n .diff)) (omega arith) (omega arith))
-    (c .if1 .came)
+    let near = not-less (n .diff) (held (minus (e .diff) (most (c .before))) (sub-if4 record { before = c .before; if2 = w .0 })) (w .1 .left) in
+    fits (minus (e .diff) (n .diff)) (omega (arith, m)) (omega (arith, m)))
+    (c .if2 .came)
+
+-- Expiry minus now, which fits.
+apart : (c : tie.Joined2) → let s = c .before in
+    Diff (toZ w64 (ofZ w64 (toZ w64 (ofZ w64 (expiry s)) -ℤ toZ w64 (ofZ w64 (now s))))) (above (expiry s) + below (now s)) (below (expiry s) + above (now s))
+apart c = let s = c .before .before .before in held (minus (word (s .fits .expiry) .diff) (word (s .fits .now) .diff)) (sub-apart c)
+
+-- The answer where what is clamped lies below the bounds, above them and within them.
+module _ (c : tie.Else1) where
+  exact : Diff ((expiry c -ℤ now c) -ℤ pos (margin c)) (above (expiry c) + below (now c) + 0) (below (expiry c) + above (now c) + margin c)
+  exact = minus (minus (parts (expiry c)) (parts (now c))) (parts (pos (margin c)))
+
+  low : above (expiry c) + below (now c) + 86400 < below (expiry c) + above (now c) + margin c → left (negℤ day) ≡ timeLeft (expiry c) (now c) (margin c)
+  unfolding timeLeft secondsLeft
+  low h = rw (taken c, is-less exact (parts (negℤ day)) (omega (arith, h)))
+
+  high : below (expiry c) + above (now c) + margin c + 86400 < above (expiry c) + below (now c) → left day ≡ timeLeft (expiry c) (now c) (margin c)
+  unfolding timeLeft secondsLeft
+  high h = rw (taken c, is-not-less exact (parts (negℤ day)) (omega (arith, h)), is-less (parts day) exact (omega (arith, h)))
+
+  within : below (expiry c) + above (now c) + margin c ≤ above (expiry c) + below (now c) + 86400
+      → above (expiry c) + below (now c) ≤ below (expiry c) + above (now c) + margin c + 86400
+      → left ((expiry c -ℤ now c) -ℤ pos (margin c)) ≡ timeLeft (expiry c) (now c) (margin c)
+  unfolding timeLeft secondsLeft
+  within l h = rw (taken c, is-not-less exact (parts (negℤ day)) (omega (arith, l)), is-not-less (parts day) exact (omega (arith, h)))
 
 returns : tie.Need-returns
-unfolding secondsLeft
-returns c =
-    let s = c .before .before in
-    let left = minus (parts (s .args .expiry)) (parts (s .args .now)) in
-    let far = less (held (minus (word (s .fits .expiry) .diff) (parts (negℤ day))) (sub-if2 (c .before))) (word (s .fits .now) .diff) (c .if2 .taken) in
-    rw (is-less left (parts (negℤ day)) (omega arith))
+unfolding timeLeft
+returns c = rw (sym (c .before .margin-too-large .ensures) ∙ c .if1 .taken)
 
 returns-2 : tie.Need-returns-2
-unfolding secondsLeft
 returns-2 c =
-    let s = c .before .before in
-    let left = minus (parts (s .args .expiry)) (parts (s .args .now)) in
-    let far = less (word (s .fits .now) .diff) (held (minus (word (s .fits .expiry) .diff) (parts day)) (sub-if3 (c .before))) (c .if3 .taken) in
-    rw (is-not-less left (parts (negℤ day)) (omega arith), is-less (parts day) left (omega arith))
-
-answer : (c : tie.Joined1) (r : ℤ) → let a = c .before .args in r ≡ clamped (toZ w64 (ofZ w64 (toZ w64 (ofZ w64 (a .expiry)) -ℤ toZ w64 (ofZ w64 (a .now))))) → r ≡ secondsLeft (a .expiry) (a .now)
-unfolding secondsLeft
-answer c r =
-    let exact = toZ-ofZ (sub-left c) ∙ (λ i. toZ-ofZ (c .before .fits .expiry) i -ℤ toZ-ofZ (c .before .fits .now) i) in
-    subst (λ (z : ℤ). r ≡ clamped z) exact
-
-returns-5 : tie.Need-returns-5
-returns-5 c = answer (c .before .before) _ (rw (c .before .if4 .left, c .if5 .left))
+    let s = c .before .before .before .before in
+    let far = less (held (minus (word (s .fits .expiry) .diff) (least (c .before .before))) (sub-if3 (c .before))) (word (s .fits .now) .diff) (c .if3 .taken) in
+    low (c .before .before) (omega (arith, far))
 
 returns-3 : tie.Need-returns-3
-returns-3 c = answer (c .before) _ (rw (c .if4 .taken))
+returns-3 c =
+    let s = c .before .before .before .before in
+    let far = less (word (s .fits .now) .diff) (held (minus (word (s .fits .expiry) .diff) (most (c .before .before))) (sub-if4 (c .before))) (c .if4 .taken) in
+    high (c .before .before) (omega (arith, far))
 
 returns-4 : tie.Need-returns-4
-returns-4 c = answer (c .before .before) _ (rw (c .before .if4 .left, c .if5 .taken))
+returns-4 c = low (c .before .before) (omega (arith, less (apart (c .before)) (least (c .before .before)) (c .if5 .taken)))
+
+returns-5 : tie.Need-returns-5
+returns-5 c = high (c .before .before .before) (omega (arith, less (most (c .before .before .before)) (apart (c .before .before)) (c .if6 .taken)))
+
+-- What is left, which fits.
+fits-left : (c : tie.Else6) → let s = c .before .before .before in
+    SFits w64 (toZ w64 (ofZ w64 (toZ w64 (ofZ w64 (expiry s)) -ℤ toZ w64 (ofZ w64 (now s)))) -ℤ toZ w64 (margin s))
+fits-left c =
+    let a = c .before .before in
+    let l = not-less (apart a) (least (a .before)) (c .before .if5 .left) in
+    let h = not-less (most (a .before)) (apart a) (c .if6 .left) in
+    fits (minus (apart a) (natural (small (a .before)))) (omega (arith, h, few (a .before))) (omega (arith, l, few (a .before)))
+
+returns-6 : tie.Need-returns-6
+returns-6 c =
+    let a = c .before .before in
+    let s = a .before .before .before in
+    let l = not-less (apart a) (least (a .before)) (c .before .if5 .left) in
+    let h = not-less (most (a .before)) (apart a) (c .if6 .left) in
+    let between = toZ-ofZ (sub-apart a) ∙ (λ i. toZ-ofZ (s .fits .expiry) i -ℤ toZ-ofZ (s .fits .now) i) in
+    ap left (toZ-ofZ (fits-left c) ∙ (λ i. between i -ℤ toZ-pos w64 (small (a .before)) i)) ∙
+    within (a .before) (omega (arith, l)) (omega (arith, h))
 
 pub seconds-left-spec : {M : Type 1} → statement M
 seconds-left-spec =
-    tie.close (tie.spec sub-if2 returns sub-if3 returns-2 sub-left returns-3 returns-4 returns-5)
+    tie.close
+    (tie.spec
+    (λ c κs. search needs)
+    returns
+    (λ c. search needs)
+    sub-least
+    sub-most
+    sub-if3
+    returns-2
+    sub-if4
+    returns-3
+    sub-apart
+    returns-4
+    returns-5
+    fits-left
+    returns-6)

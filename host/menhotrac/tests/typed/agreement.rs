@@ -2,7 +2,7 @@
 
 use menhotrac::{
     raw, Actions, Answer, Bit, Connection, DatTimerOrder, Event, HandshakeTimer, Lists, Message,
-    Tag, Token,
+    Tag, Token, MAX_MARGIN,
 };
 
 use crate::support::{every_event, patterned_cache, record, Carried, CARRIED, TOKEN};
@@ -43,6 +43,34 @@ fn with_a_block_that_waits() {
     }
 }
 
+/// A flat event with a margin that would be refused does what the typed event does, which has none.
+#[test]
+fn margin_is_read_of_hello_and_dat_alone() {
+    let token = Token {
+        margin: u32::MAX,
+        ..TOKEN
+    };
+    for state in 0..10 {
+        for tag in 0..=7 {
+            let carried = Carried {
+                tag: Tag(tag),
+                token,
+                payload: PAYLOAD,
+                ..CARRIED
+            };
+            agrees_without_a_token(record(state), carried);
+        }
+    }
+}
+
+fn agrees_without_a_token(record: raw::Connection, carried: Carried) {
+    for (code, event) in (0..).zip(every_event(carried)) {
+        if !matches!(event, Event::ScHello { .. } | Event::ScDat(_)) {
+            agrees(record, event, code, carried);
+        }
+    }
+}
+
 fn agrees_with_all_fields(record: raw::Connection) {
     for tag in 0..=7 {
         let tag = Tag(tag);
@@ -67,11 +95,14 @@ fn agrees_with_all_fields(record: raw::Connection) {
             );
         }
     }
-    let token = Token {
-        verdict: false,
-        ..TOKEN
-    };
-    agrees_on_all(record, Carried { token, ..CARRIED });
+    for (verdict, margin) in [(false, 0), (true, 1), (true, MAX_MARGIN)] {
+        let token = Token {
+            verdict,
+            margin,
+            ..TOKEN
+        };
+        agrees_on_all(record, Carried { token, ..CARRIED });
+    }
     let lists = Lists::default();
     agrees_on_all(record, Carried { lists, ..CARRIED });
 }
@@ -94,6 +125,7 @@ fn flat_event(code: u32, carried: Carried) -> raw::Event {
         timer: carried.timer.number(),
         bit: carried.bit.number(),
         verdict: carried.token.verdict.into(),
+        margin: carried.token.margin,
         expiry: carried.token.expiry,
         now: carried.token.now,
     }

@@ -75,6 +75,7 @@ fn refusals() {
         Refusal::ListTooLong,
         Refusal::NotWellFormed,
         Refusal::NumberExhausted,
+        Refusal::MarginTooLarge,
     ];
     assert_numbered!(Refusal, 1, cases);
     for (at, refusal) in cases.into_iter().enumerate() {

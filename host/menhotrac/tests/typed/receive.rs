@@ -2,12 +2,13 @@
 
 use menhotrac::{
     raw, Answer, Bit, Connection, Event, Lists, Message, OurLists, ReadRefusal, Received, Refusal,
-    State, Token, CACHE_LEN, MAX_LIST_LEN, MAX_PAYLOAD_LEN,
+    State, Token, CACHE_LEN, MAX_LIST_LEN, MAX_MARGIN, MAX_PAYLOAD_LEN,
 };
 
 use crate::bytes::{message, TOKEN_BYTES};
 use crate::support::{
-    every_event, handled, in_state, patterned_cache, record, Carried, CARRIED, LISTS, OURS, TOKEN,
+    every_event, handled, in_state, judged, patterned_cache, record, Carried, CARRIED,
+    LARGE_MARGINS, LISTS, OURS, TOKEN,
 };
 
 const LONG_LIST: [u32; MAX_LIST_LEN + 1] = [3; MAX_LIST_LEN + 1];
@@ -94,6 +95,15 @@ fn each_message_in_each_state() {
     });
 }
 
+/// Also those that are refused: by a HELLO or DAT, and by no other message.
+#[test]
+fn margins() {
+    for margin in [1, MAX_MARGIN].into_iter().chain(LARGE_MARGINS) {
+        let token = Token { margin, ..TOKEN };
+        agrees_on_all(Carried { token, ..CARRIED });
+    }
+}
+
 #[test]
 fn payloads_of_several_lengths() {
     let longest = [7; MAX_PAYLOAD_LEN + 1];
@@ -141,11 +151,7 @@ fn token_is_read_of_hello_and_dat_alone() {
 
 #[test]
 fn hello_and_dat_without_a_token_lock() {
-    for (state, event) in [
-        (1, HELLO),
-        (5, Event::ScDat(TOKEN)),
-        (6, Event::ScDat(TOKEN)),
-    ] {
+    for (state, event) in judged(TOKEN) {
         let mut connection = in_state(state);
         let mut cache = patterned_cache();
         let bytes = message(event).unwrap();
@@ -222,13 +228,17 @@ fn refusals_of_the_reader_come_first() {
         state: 10,
         ..record(0)
     };
+    let token = Token {
+        margin: MAX_MARGIN + 1,
+        ..TOKEN
+    };
     for (bytes, refusal) in unreadable() {
         for record in [record(1), record(8), malformed] {
             for cache_len in [0, CACHE_LEN] {
                 let mut connection = Connection::from_raw(record);
                 let mut cache = patterned_cache();
                 let lent = &mut cache[..cache_len];
-                let answer = connection.receive(&bytes, Some(TOKEN), OURS, lent);
+                let answer = connection.receive(&bytes, Some(token), OURS, lent);
                 assert_eq!(answer, Err(refusal), "{bytes:02x?}");
                 assert_eq!(connection.raw(), record);
                 assert_eq!(cache, patterned_cache());
@@ -250,19 +260,22 @@ fn unreadable_bytes_can_end_the_connection() {
     assert_eq!(connection.state(), Some(State::ClosedLocked));
 }
 
+/// `TOKEN` in numbers.
+const FLAT_TOKEN: raw::Token = raw::Token {
+    verdict: 1,
+    margin: 0,
+    expiry: TOKEN.expiry,
+    now: TOKEN.now,
+};
+
 /// The flat call, with marked actions so that it shows what is written.
-fn flat(record: raw::Connection, bytes: &[u8], verdict: u32) -> (raw::Receipt, raw::Actions) {
+fn flat(record: raw::Connection, bytes: &[u8], token: raw::Token) -> (raw::Receipt, raw::Actions) {
     let mut connection = record;
     let mut cache = patterned_cache();
     let mut actions = raw::Actions {
         message: 77,
         payload_len: 77,
         ..raw::Actions::default()
-    };
-    let token = raw::Token {
-        verdict,
-        expiry: TOKEN.expiry,
-        now: TOKEN.now,
     };
     let receipt = raw::receive(
         &mut connection,
@@ -280,40 +293,70 @@ fn flat(record: raw::Connection, bytes: &[u8], verdict: u32) -> (raw::Receipt, r
     (receipt, actions)
 }
 
-#[test]
-fn wrong_verdict_is_refused() {
+/// Checks that a token is refused in each state, and read of HELLO and DAT alone; and that the fault of a lower number
+/// is given.
+fn refuses_token(token: raw::Token, refusal: u32) {
     for (event, bytes) in every_message(CARRIED) {
         let with_token = matches!(event, Event::ScHello { .. } | Event::ScDat(_));
-        for verdict in [2, u32::MAX] {
-            for state in 0..10 {
-                let (receipt, _) = flat(record(state), &bytes, verdict);
-                let refused = receipt.answer == raw::WRONG_VERDICT;
-                assert_eq!(refused, with_token, "{event:?}");
-            }
+        for state in 0..10 {
+            let (receipt, _) = flat(record(state), &bytes, token);
+            assert_eq!(receipt.answer == refusal, with_token, "{event:?}");
         }
     }
     let exhausted = raw::Connection {
         handled: u32::MAX,
         ..record(1)
     };
-    let (receipt, _) = flat(exhausted, &message(HELLO).unwrap(), 2);
+    let (receipt, _) = flat(exhausted, &message(HELLO).unwrap(), token);
     assert_eq!(receipt.answer, Refusal::NumberExhausted.number());
+}
+
+#[test]
+fn wrong_verdict_is_refused() {
+    for verdict in [2, u32::MAX] {
+        let token = raw::Token {
+            verdict,
+            ..FLAT_TOKEN
+        };
+        refuses_token(token, raw::WRONG_VERDICT);
+    }
+}
+
+/// Also where the verdict is wrong.
+#[test]
+fn large_margin_is_refused() {
+    for margin in LARGE_MARGINS {
+        for verdict in 0..=2 {
+            let token = raw::Token {
+                verdict,
+                margin,
+                ..FLAT_TOKEN
+            };
+            refuses_token(token, Refusal::MarginTooLarge.number());
+        }
+    }
 }
 
 /// The place is told wherever the bytes are a message, also where that is ignored or refused.
 #[test]
 fn place_is_told_unless_the_bytes_are_refused() {
     let dat = message(Event::ScDat(TOKEN)).unwrap();
-    for (state, verdict, answer) in [
-        (6, 1, raw::HANDLED),
-        (7, 1, raw::IGNORED),
-        (6, 2, raw::WRONG_VERDICT),
+    for (state, verdict, margin, answer) in [
+        (6, 1, 0, raw::HANDLED),
+        (7, 1, 0, raw::IGNORED),
+        (6, 1, MAX_MARGIN + 1, Refusal::MarginTooLarge.number()),
+        (6, 2, 0, raw::WRONG_VERDICT),
     ] {
-        let (receipt, _) = flat(record(state), &dat, verdict);
+        let token = raw::Token {
+            verdict,
+            margin,
+            ..FLAT_TOKEN
+        };
+        let (receipt, _) = flat(record(state), &dat, token);
         assert_eq!(receipt, raw::Receipt { answer, place: 4 });
     }
     for (bytes, refusal) in unreadable() {
-        let (receipt, _) = flat(record(7), &bytes, 1);
+        let (receipt, _) = flat(record(7), &bytes, FLAT_TOKEN);
         let answer = refusal.number();
         assert_eq!(receipt, raw::Receipt { answer, place: 0 });
     }

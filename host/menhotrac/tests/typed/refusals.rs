@@ -1,11 +1,13 @@
 //! Each refusal that typed calls can meet, with record and cache unchanged.
 
 use menhotrac::{
-    raw, Answer, Connection, Event, Lists, Refusal, State, CACHE_LEN, MAX_LIST_LEN, MAX_PAYLOAD_LEN,
+    raw, Answer, Connection, Event, Lists, Refusal, State, Token, CACHE_LEN, MAX_LIST_LEN,
+    MAX_MARGIN, MAX_PAYLOAD_LEN,
 };
 
 use crate::support::{
-    every_event, handled, in_state, patterned_cache, record, Carried, CARRIED, LISTS, TOKEN,
+    every_event, handled, in_state, judged, patterned_cache, record, Carried, CARRIED,
+    LARGE_MARGINS, LISTS, TOKEN,
 };
 
 const LONG_PAYLOAD: [u8; MAX_PAYLOAD_LEN + 1] = [1; MAX_PAYLOAD_LEN + 1];
@@ -153,13 +155,17 @@ fn state_above_9() {
     assert_eq!(in_state(9).state(), Some(State::ClosedLocked));
 }
 
+/// A record whose number is at its end.
+fn exhausted(state: usize) -> Connection {
+    Connection::from_raw(raw::Connection {
+        handled: u32::MAX,
+        ..record(state)
+    })
+}
+
 #[test]
 fn exhausted_number() {
-    let record = raw::Connection {
-        handled: u32::MAX,
-        ..record(7)
-    };
-    let connection = Connection::from_raw(record);
+    let connection = exhausted(7);
     refuses(
         &connection,
         Event::UpperClose,
@@ -177,6 +183,70 @@ fn exhausted_number() {
     let answer = stepped.step(Event::UpperStartHandshake, &mut cache);
     assert_eq!(answer, Answer::Ignored);
     assert_eq!(stepped, connection);
+}
+
+/// Tokens with a margin that is refused, whatever else the host knows of them.
+fn with_large_margins() -> impl Iterator<Item = Token> {
+    LARGE_MARGINS.into_iter().flat_map(|margin| {
+        [true, false].map(|verdict| Token {
+            verdict,
+            margin,
+            ..TOKEN
+        })
+    })
+}
+
+#[test]
+fn large_margin() {
+    for token in with_large_margins() {
+        for (_, event) in judged(token) {
+            for state in 0..10 {
+                let connection = in_state(state);
+                refuses(&connection, event, CACHE_LEN, Refusal::MarginTooLarge);
+            }
+        }
+    }
+}
+
+#[test]
+fn largest_margin_is_taken() {
+    let token = Token {
+        margin: MAX_MARGIN,
+        ..TOKEN
+    };
+    for (_, event) in judged(token) {
+        for state in 0..10 {
+            let mut cache = patterned_cache();
+            let answer = in_state(state).step(event, &mut cache);
+            assert!(!matches!(answer, Answer::Refused(_)), "{event:?}");
+        }
+    }
+}
+
+#[test]
+fn large_margin_and_a_lower_fault() {
+    let malformed = Connection::from_raw(raw::Connection { h: 5, ..record(7) });
+    for token in with_large_margins() {
+        for (state, event) in judged(token) {
+            let connection = in_state(state);
+            refuses(&connection, event, CACHE_LEN - 1, Refusal::CacheTooShort);
+            refuses(&malformed, event, CACHE_LEN, Refusal::NotWellFormed);
+            refuses(
+                &exhausted(state),
+                event,
+                CACHE_LEN,
+                Refusal::NumberExhausted,
+            );
+            // Ignored, but for the margin.
+            refuses(&exhausted(7), event, CACHE_LEN, Refusal::MarginTooLarge);
+        }
+        let lists = Lists {
+            our_provers: &LONG_LIST,
+            ..LISTS
+        };
+        let hello = Event::ScHello { token, lists };
+        refuses(&in_state(1), hello, CACHE_LEN, Refusal::ListTooLong);
+    }
 }
 
 #[test]

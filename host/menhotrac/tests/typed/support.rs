@@ -2,15 +2,19 @@
 
 use menhotrac::{
     raw, Actions, Answer, Bit, Connection, Event, HandshakeTimer, Lists, OurLists, Tag, Token,
-    CACHE_LEN,
+    CACHE_LEN, MAX_MARGIN,
 };
 
 /// The boot run's token: 60 seconds are left.
 pub const TOKEN: Token = Token {
     verdict: true,
+    margin: 0,
     expiry: 1_060,
     now: 1_000,
 };
+
+/// Margins that are refused.
+pub const LARGE_MARGINS: [u32; 2] = [MAX_MARGIN + 1, u32::MAX];
 
 /// The boot run's lists: our verifier's suite is 7, our prover's 3.
 pub const LISTS: Lists = Lists {
@@ -136,6 +140,16 @@ pub fn every_event(carried: Carried) -> [Event; 24] {
         Event::RaTimeout(tag),
         Event::AckTimeout(tag),
     ]
+}
+
+/// The events in which a token is judged, each with a state that handles it.
+pub fn judged(token: Token) -> [(usize, Event<'static>); 3] {
+    let hello = Event::ScHello {
+        token,
+        lists: LISTS,
+    };
+    let dat = Event::ScDat(token);
+    [(1, hello), (5, dat), (6, dat)]
 }
 
 /// The actions of a call that must be handled.

@@ -1,7 +1,7 @@
 //! Random calls for the runs.
 
 use model::random::Random;
-use model::{code, Call, Event, Lists, Record};
+use model::{code, Call, Event, Lists, Record, MOST_MARGIN};
 
 /// How many calls the runs of a test have together.
 pub const CALLS: u32 = 400_000;
@@ -15,6 +15,15 @@ fn random_code(random: &mut Random) -> u32 {
         random.pick(&[4, 7, 13])
     } else {
         any
+    }
+}
+
+/// A margin that mostly leaves a token some seconds, rarely one that is refused.
+fn random_margin(random: &mut Random) -> u32 {
+    if random.chance(5) {
+        random.at_least(MOST_MARGIN + 1)
+    } else {
+        random.below(30)
     }
 }
 
@@ -37,6 +46,7 @@ fn random_event(random: &mut Random, record: &Record) -> Event {
         timer,
         bit: random.below(2),
         verdict: random.chance(90),
+        margin: random_margin(random),
         expiry: i64::from(random.below(100)),
         now: i64::from(random.below(20)),
     }

@@ -30,7 +30,6 @@ impl<'a> Arrival<'a> {
         bytes: &'a [u8],
         read: &Read,
     ) -> Arrival<'a> {
-        let (expiry, now) = tokens::mostly_good_times(random);
         let suites = match read {
             Ok(Message::Hello { .. }) => SuiteLists::draw(random),
             _ => SuiteLists::unread(random),
@@ -39,11 +38,7 @@ impl<'a> Arrival<'a> {
             edition,
             record,
             bytes,
-            token: Token {
-                verdict: tokens::verdict(random),
-                expiry,
-                now,
-            },
+            token: tokens::mostly_good(random),
             suites,
             cache_len: caches::draw_len(random),
         }
@@ -63,6 +58,7 @@ impl<'a> Arrival<'a> {
         let OurLists { verifiers, provers } = self.our_lists();
         let given = Given {
             verdict: self.token.verdict == 1,
+            margin: self.token.margin,
             expiry: self.token.expiry,
             now: self.token.now,
             our_verifiers: verifiers,

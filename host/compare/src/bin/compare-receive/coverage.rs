@@ -17,13 +17,14 @@ const MESSAGES: RangeInclusive<u32> = 11..=19;
 const TRANSITIONS: usize = 41;
 
 /// All answers. Messages cannot have the faults 1 to 3.
-const ANSWERS: [u32; 13] = [
+const ANSWERS: [u32; 14] = [
     HANDLED,
     4,
     5,
     6,
     7,
     8,
+    9,
     21,
     22,
     23,
@@ -34,24 +35,29 @@ const ANSWERS: [u32; 13] = [
 ];
 
 /// The step's faults that a message can have, by the number of their refusal.
-const FAULTS: [u32; 6] = [4, 5, 6, 7, 8, WRONG_VERDICT];
+const FAULTS: [u32; 7] = [4, 5, 6, 7, 8, 9, WRONG_VERDICT];
 
 /// Every pair of those that one message can have: 4 asks for another message
-/// than 6 and the wrong verdict do.
-const PAIRS: [(u32, u32); 13] = [
+/// than 6, 9 and the wrong verdict do.
+const PAIRS: [(u32, u32); 18] = [
     (4, 5),
     (4, 7),
     (4, 8),
     (5, 6),
     (5, 7),
     (5, 8),
+    (5, 9),
     (5, WRONG_VERDICT),
     (6, 7),
     (6, 8),
+    (6, 9),
     (6, WRONG_VERDICT),
     (7, 8),
+    (7, 9),
     (7, WRONG_VERDICT),
+    (8, 9),
     (8, WRONG_VERDICT),
+    (9, WRONG_VERDICT),
 ];
 
 /// What the messages of a thread, or of all, have shown.
