@@ -35,7 +35,7 @@ fn main() {
     call(acknowledged, event(codes::RA_PROVER_OK, 6), &[], &mut cache);
 }
 
-// The run's events have bit 0, and its token a verdict of yes and no margin.
+// The run's events have bit 0, and its token a verdict of yes and margin 0.
 fn event(code: u32, tag: u32) -> Event {
     Event {
         code,

@@ -7,7 +7,7 @@ use Rattle.protocol.specs.declared.Answer.the-variants.{Handled, Ignored, Refus
 abbrev pub ignored : ℕ
 ignored = 100
 
--- 0 for a handled call, 100 for an ignored one, else document 01's number of the refusal.
+-- 0 for a handled call, 100 for an ignored one, else the number of the refusal.
 abbrev pub answerNumber : Answer → ℕ
 answerNumber Handled = 0
 answerNumber Ignored = ignored

@@ -133,7 +133,7 @@ fn at_the_ends() {
     );
 }
 
-// The smallest and the largest difference that 64 bits hold, and those that the margin moves past them.
+// The smallest and the largest difference that 64 bits hold, and those that a margin moves to or across them.
 fn around_64_bits() {
     row(b"2^63 - 1", -1, SMALLEST);
     row(b"2^63", LARGEST, -1);

@@ -10,6 +10,7 @@ use crate::events::with_margin;
 use crate::print;
 use crate::records::BOTH_RUN;
 use crate::records::EXPIRED;
+use crate::records::EXPIRED_AT_LIMIT;
 use crate::records::EXPIRED_WITH_RA;
 use crate::records::FRESH;
 use crate::records::GREETED;
@@ -20,7 +21,7 @@ use crate::records::READY_AT_LIMIT;
 use connection::Connection;
 use connection::codes;
 
-// The margin that is refused first.
+// The smallest margin that is refused.
 const TOO_LARGE: u32 = 301;
 
 const LARGEST: u32 = 4_294_967_295;
@@ -32,8 +33,9 @@ pub(crate) fn run() {
     print::heading(b"step: margins of 301 and the largest number");
     refused();
     not_carried();
-    print::heading(b"step: a margin of 301 and another fault, the lower number");
+    print::heading(b"step: a margin of 301 on an event that carries none and has a fault");
     with_a_fault_of_the_event();
+    print::heading(b"step: a margin of 301 and another fault, the lower number");
     with_another_fault();
 }
 
@@ -146,5 +148,14 @@ fn with_another_fault() {
         &[1; 17],
     );
     dat(b"not well formed", EXPIRED_WITH_RA, TOO_LARGE);
-    hello(b"the largest number of events", GREETED_AT_LIMIT, TOO_LARGE);
+    hello(
+        b"hello, the largest number of events",
+        GREETED_AT_LIMIT,
+        TOO_LARGE,
+    );
+    dat(
+        b"token, the largest number of events",
+        EXPIRED_AT_LIMIT,
+        TOO_LARGE,
+    );
 }

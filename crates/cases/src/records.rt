@@ -113,6 +113,22 @@ pub(crate) const EXPIRED: Connection = Connection {
     ack: 0,
 };
 
+// WAIT_FOR_DAT_AND_RA after the largest number of handled events.
+pub(crate) const EXPIRED_AT_LIMIT: Connection = Connection {
+    state: 5,
+    awaiting_ack: 0,
+    next_send_bit: 0,
+    expected_bit: 0,
+    cached_len: 0,
+    handled: 4_294_967_295,
+    h: 9,
+    prover: 8,
+    verifier: 0,
+    dat: 0,
+    ra: 0,
+    ack: 0,
+};
+
 // WAIT_FOR_DAT_AND_RA_VERIFIER.
 pub(crate) const EXPIRED_PROVED: Connection = Connection {
     state: 6,

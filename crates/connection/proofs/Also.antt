@@ -8,6 +8,7 @@ use lib.Dec.{eqb}
 use lib.ListN.{length}
 use Rattle.record.specs.Limits.{limits}
 use Rattle.protocol.specs.Actions.{noActions}
+use Rattle.protocol.specs.Faults.{late}
 use Rattle.event.specs.Call.{Call, inputOf}
 use Rattle.protocol.specs.Step.{refusalNumber, unchanged, handledTo, decided, stepOf, refusalOf, cacheAfter, resultWith, resultOf}
 use Rattle.protocol.specs.declared.Answer.{Answer}
@@ -15,10 +16,11 @@ use Rattle.protocol.specs.declared.Answer.the-variants.{Handled, Ignored, Refus
 use Rattle.protocol.specs.declared.Outcome.{Outcome}
 use Rattle.record.specs.declared.Connection.{Connection}
 use Rattle.event.specs.declared.Input.{Input}
-use Rattle.connection.specs.Also.{lateAlso, decidedAlso, resultAlso}
+use Rattle.connection.specs.Also.{decidedAlso, resultAlso}
+use Rattle.connection.specs.Late.{lateAlso}
 use Rattle.flat.specs.Flat.{recordIn, slotsOf}
 use Rattle.flat.specs.Written.{Written}
-use Rattle.protocol.proofs.Decided.{late, number-is}
+use Rattle.protocol.proofs.Decided.{number-is}
 use Rattle.protocol.proofs.Stepped.{never-refused}
 
 -- What is written of an outcome is written of one that equals it.
@@ -62,7 +64,7 @@ module _ (also : ℕ) (connection : Connection) (code : ℕ) (input : Input) whe
 -- Where faults 1 to 8 are absent, by the later ones.
 module _ (also : ℕ) (connection : Connection) (code : ℕ) (input : Input) where
   abbrev own : ℕ
-  own = late limits connection code input
+  own = late input
 
   -- The step's outcome, where it is that of an event, unless a later fault is present.
   abbrev Unless : Outcome → (free : Bool) → Type 0

@@ -8,15 +8,10 @@ use Rattle.event.specs.Call.{Call, inputOf}
 use Rattle.event.specs.declared.Input.{Input}
 use Rattle.record.specs.Limits.{limits}
 use Rattle.record.specs.declared.Connection.{Connection}
-use Rattle.protocol.specs.Faults.{lateFaults, firstFault}
 use Rattle.protocol.specs.Refusal.{refusal}
 use Rattle.protocol.specs.Step.{Result, cacheAfter, decided, resultWith, unchanged}
 use Rattle.protocol.specs.declared.Answer.the-variants.{Refused}
 use Rattle.protocol.specs.declared.Outcome.{Outcome}
-
--- What is given where faults 1 to 8 are absent: refusal 9 if its fault is present, else `also`.
-abbrev pub lateAlso : (also : ℕ) → Input → ℕ
-lateAlso also input = let late = firstFault 9 (lateFaults input) in cond (eqb late 0) also late
 
 -- The step's outcome, or the refusal `also`; 0 stands for no such fault.
 unfoldable pub decidedAlso : (also : ℕ) → Connection → (code : ℕ) → Input → Outcome

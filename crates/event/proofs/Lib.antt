@@ -1,1 +1,2 @@
+pub mod NoMargin
 mod Opening

@@ -36,27 +36,27 @@ kindAt code event = getD (kinds event) code Plain
 unfoldable pub kindOf : Event → EventKind
 kindOf event = kindAt (event .code) event
 
--- The fields of an event, whether its token is good, the seconds left of a good token, and whether its margin is refused.
+-- The fields of an event, whether its token is good, the seconds left of a good token, and whether its margin is too large.
 pub record Fields : Type 0 where
   pub tag : ℕ
   pub timer : ℕ
   pub bit : ℕ
   pub isGood : Bool
   pub seconds : ℕ
-  pub marginTooLarge : Bool
+  pub largeMargin : Bool
 
 -- The fields in their order.
-abbrev pub fields : (tag timer bit : ℕ) (isGood : Bool) (seconds : ℕ) (tooLarge : Bool) → Fields
-fields tag timer bit isGood seconds tooLarge = record {
+abbrev pub fields : (tag timer bit : ℕ) (isGood : Bool) (seconds : ℕ) (largeMargin : Bool) → Fields
+fields tag timer bit isGood seconds largeMargin = record {
   tag = tag;
   timer = timer;
   bit = bit;
   isGood = isGood;
   seconds = seconds;
-  marginTooLarge = tooLarge;
+  largeMargin = largeMargin;
 }
 
--- The fields that a kind carries. The others are not read: they count as 0, there is no good token, and no margin is refused.
+-- The fields that a kind carries. The others are not read: they count as 0, there is no good token, and no margin too large.
 abbrev pub fieldsOf : EventKind → Fields
 fieldsOf Plain = fields 0 0 0 false 0 false
 fieldsOf (Tagged tag) = fields tag 0 0 false 0 false

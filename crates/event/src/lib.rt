@@ -173,9 +173,9 @@ fn seconds_in(kind: EventKind) -> u32
     good_seconds(verdict, expiry, now, margin)
 }
 
-// Whether a token's margin is refused.
+// Whether a token's margin is too large.
 fn margin_too_large_in(kind: EventKind) -> bool
-    ensures { λ r. ⌜ r ≡ fieldsOf kind .marginTooLarge ⌝ }
+    ensures { λ r. ⌜ r ≡ fieldsOf kind .largeMargin ⌝ }
 {
     let EventKind::Token {
         verdict: _,

@@ -15,7 +15,7 @@ use Rattle.table.specs.Table.{ignored}
 use Rattle.protocol.specs.Agreement.{Block, isHandled, AgreesWith, noPast, pastAfter, Demand3}
 use Rattle.protocol.specs.Block.{partOf}
 use Rattle.protocol.specs.Condition.{nextState}
-use Rattle.protocol.specs.Faults.{earlyFaults, lateFaults, firstFault}
+use Rattle.protocol.specs.Faults.{earlyFaults, lateFaults, firstFault, early, late}
 use Rattle.protocol.specs.History.{History, hear, counts, notesAfter, counted, refusalTo, answerTo, keep, historyAfter, stateOf}
 use Rattle.protocol.specs.Refusal.{illFormed, exhausted, refusal}
 use Rattle.protocol.specs.Step.{unchanged, handledTo, resultOf}
@@ -28,7 +28,7 @@ use Rattle.protocol.proofs.Carried.{Waits, Carried, unmoved, leads-ther
 use Rattle.protocol.proofs.Faults.{first-of, none-of}
 use Rattle.protocol.proofs.Follows.{Follows, follows-first, well-formed}
 use Rattle.protocol.proofs.Kept.{leads}
-use Rattle.protocol.proofs.Stepped.{still, outcome-by, result-by, Faultless, faultless, unfaulted}
+use Rattle.protocol.proofs.Stepped.{still, outcome-by, result-by, Faultless, faultless}
 use Rattle.table.proofs.Finite.{is-true}
 
 module _ (limits : Limits) (history : History) (accepted : Option Block) (connection : Connection) (cache : List ℕ)
@@ -63,6 +63,9 @@ module _ (limits : Limits) (history : History) (accepted : Option Block) (connec
     same-exhausted : exhausted limits connection code read ≡ (counting && eqb (history .count) (limits .handled))
     same-exhausted = λ i. handles counting refl i && eqb (R .number i) (limits .handled)
 
+  no-early : eqb (early code read) 0 ≡ true → Faultless limits call (length cache)
+  no-early e = faultless limits call (length cache) (none-of 0 (earlyFaults code read) (eqb-true (early code read) 0 e))
+
   -- Fault 7 is absent.
   not-ill-formed : illFormed limits connection ≡ false
   not-ill-formed = ap not (is-true (wellFormed limits connection) (well-formed limits (length cache) history connection cache R))
@@ -71,20 +74,14 @@ module _ (limits : Limits) (history : History) (accepted : Option Block) (connec
   same-number : refusal limits connection code read ≡ refusalTo limits (length cache) history call
   unfolding refusal refusalTo
   same-number =
-      first-of 0 early (illFormed limits connection ∷ exhausted limits connection code read ∷ lateFaults read)
-      ∙ by-early (eqb (firstFault 1 early) 0) refl
-      ∙ sym (first-of 0 early (false ∷ (counting && eqb (history .count) (limits .handled)) ∷ lateFaults read))
+      first-of 0 (earlyFaults code read) (illFormed limits connection ∷ exhausted limits connection code read ∷ lateFaults read)
+      ∙ by-lower (eqb (early code read) 0) refl
     where
-      early : List Bool
-      early = earlyFaults code read
-
-      by-early : (free : Bool) → eqb (firstFault 1 early) 0 ≡ free
-          → cond free (firstFault 7 (illFormed limits connection ∷ exhausted limits connection code read ∷ lateFaults read)) (firstFault 1 early)
-          ≡ cond free (firstFault 7 (false ∷ (counting && eqb (history .count) (limits .handled)) ∷ lateFaults read)) (firstFault 1 early)
-      by-early true e =
-          let f = faultless limits call (length cache) (none-of 0 early (eqb-true (firstFault 1 early) 0 e)) in
-          λ i. firstFault 7 (not-ill-formed i ∷ same-exhausted f i ∷ lateFaults read)
-      by-early false e = refl
+      by-lower : (free : Bool) → eqb (early code read) 0 ≡ free
+          → cond free (firstFault 7 (illFormed limits connection ∷ exhausted limits connection code read ∷ lateFaults read)) (early code read)
+          ≡ cond free (cond (counting && eqb (history .count) (limits .handled)) 8 (late read)) (early code read)
+      by-lower true e = λ i. firstFault 7 (not-ill-formed i ∷ same-exhausted (no-early e) i ∷ lateFaults read)
+      by-lower false e = refl
 
   -- A call that is not handled, given its result.
   rests : (answer : Answer) → isHandled answer ≡ false → resultOf limits connection call cache ≡ still answer connection cache
@@ -102,7 +99,13 @@ module _ (limits : Limits) (history : History) (accepted : Option Block) (connec
 
   arguments-fit : eqb number 0 ≡ true → Faultless limits call (length cache)
   unfolding refusalTo
-  arguments-fit e = unfaulted limits call (length cache) false (counting && eqb (history .count) (limits .handled)) (eqb-true number 0 e)
+  arguments-fit = by-lower (eqb (early code read) 0) refl
+    where
+      by-lower : (free : Bool) → eqb (early code read) 0 ≡ free
+          → eqb (cond free (cond (counting && eqb (history .count) (limits .handled)) 8 (late read)) (early code read)) 0 ≡ true
+          → Faultless limits call (length cache)
+      by-lower true e n = no-early e
+      by-lower false e n = no-early n
 
   -- The step and the history, by whether there is a refusal and whether the event counts.
   carried-by : (free takes : Bool) → eqb number 0 ≡ free → counting ≡ takes

@@ -8,7 +8,7 @@ use lib.Dec.{eqb}
 use borrow.Author.Tests.{eqb-true}
 use Rattle.protocol.specs.Condition.{nextState}
 use Rattle.record.specs.Limits.{Limits}
-use Rattle.protocol.specs.Faults.{earlyFaults, lateFaults, firstFault}
+use Rattle.protocol.specs.Faults.{earlyFaults, lateFaults, firstFault, late}
 use Rattle.protocol.specs.Refusal.{illFormed, exhausted, refusal}
 use Rattle.protocol.specs.Step.{refusalNumber, unchanged, handledTo, decidedBy, decided}
 use Rattle.protocol.specs.declared.Answer.the-variants.{Ignored, Refused}
@@ -22,13 +22,9 @@ module _ (limits : Limits) (connection : Connection) (code : ℕ) (input : Input
   abbrev pub lowerFaults : List Bool
   lowerFaults = earlyFaults code input ++ (illFormed limits connection ∷ [])
 
-  -- Refusal 9, 0 for none.
-  abbrev pub late : ℕ
-  late = firstFault 9 (lateFaults input)
-
   -- The refusal, of the lowest of them, the next state and whether the number is the largest.
   abbrev numberBy : (lower to : ℕ) (full : Bool) → ℕ
-  numberBy lower to full = cond (eqb lower 0) (cond (not (eqb to 11) && full) 8 late) lower
+  numberBy lower to full = cond (eqb lower 0) (cond (not (eqb to 11) && full) 8 (late input)) lower
 
   -- The outcome, by the same.
   abbrev judged : (lower to : ℕ) (full : Bool) → Outcome
@@ -54,13 +50,13 @@ module _ (limits : Limits) (connection : Connection) (code : ℕ) (input : Input
     pub refused : eqb lower 0 ≡ false → unchanged (Refused lower) connection ≡ decided limits connection code input
     refused e = rw (e, e) at as-judged
 
-    pub ignored : lower ≡ 0 → to ≡ 11 → cond (eqb late 0) (unchanged Ignored connection) (unchanged (Refused late) connection) ≡ decided limits connection code input
+    pub ignored : lower ≡ 0 → to ≡ 11 → cond (eqb (late input) 0) (unchanged Ignored connection) (unchanged (Refused (late input)) connection) ≡ decided limits connection code input
     ignored e i = rw (e, i) at as-judged
 
     pub refused-full : lower ≡ 0 → eqb to 11 ≡ false → full ≡ true → unchanged (Refused 8) connection ≡ decided limits connection code input
     refused-full e i f = rw (e, i, f) at as-judged
 
-    pub handled : lower ≡ 0 → eqb to 11 ≡ false → full ≡ false → cond (eqb late 0) (handledTo to connection code input) (unchanged (Refused late) connection) ≡ decided limits connection code input
+    pub handled : lower ≡ 0 → eqb to 11 ≡ false → full ≡ false → cond (eqb (late input) 0) (handledTo to connection code input) (unchanged (Refused (late input)) connection) ≡ decided limits connection code input
     handled e i f = rw (e, i, f) at as-judged
 
   -- What the lower faults say where none is present.

@@ -14,8 +14,8 @@ use Rattle.record.specs.WellFormed.{wellFormed}
 use Rattle.table.specs.Table as table
 use Rattle.protocol.specs.Block.{partOf}
 use Rattle.protocol.specs.Condition.{nextState}
-use Rattle.protocol.specs.Faults.{earlyFaults, lateFaults, faults, lowest}
-use Rattle.protocol.specs.Refusal.{illFormed, exhausted, refusal}
+use Rattle.protocol.specs.Faults.{earlyFaults, lateFaults}
+use Rattle.protocol.specs.Refusal.{illFormed, exhausted, faults, refusal}
 use Rattle.protocol.specs.Step.{unchanged, handledTo, decided, stepOf, refusalOf, cacheAfter, Result, resultWith, resultOf}
 use Rattle.protocol.specs.declared.Answer.{Answer}
 use Rattle.protocol.specs.declared.Answer.the-variants.{Handled, Ignored, Refused}
@@ -93,19 +93,12 @@ faultless limits call size none = record {
   cache = ltb-false size (limits .payload) (none .1 .1 .1 .1 .0);
 }
 
--- So it is where no fault is present at all.
-pub unfaulted : (limits : Limits) (call : Call) (size : ℕ) (fault7 fault8 : Bool) → lowest (call .event .code) (inputOf limits call size) fault7 fault8 ≡ 0 → Faultless limits call size
-unfaulted limits call size fault7 fault8 e =
-    let code = call .event .code in
-    let read = inputOf limits call size in
-    faultless limits call size (none-first (earlyFaults code read) (fault7 ∷ fault8 ∷ lateFaults read) (none-of 0 (faults code read fault7 fault8) e))
-
 -- The length that is then read of a payload.
 pub payload-length : (limits : Limits) (call : Call) (size : ℕ) → Faultless limits call size → T (carriesPayload (call .event .code)) → inputOf limits call size .«payload_len» ≡ length (call .payload)
 unfolding inputBy
 payload-length limits call size f t = rw (le-ltb (limits .payload) (length (call .payload)) (f .payload t))
 
--- What a call without refusal has: no fault of its arguments, a well-formed record, and a number that can be raised if it is handled.
+-- What a call without refusal has: none of faults 1 to 6, a well-formed record, and a number that can be raised if it is handled.
 pub record Unrefused (limits : Limits) (connection : Connection) (call : Call) (cache : List ℕ) : Type 0 where
   pub arguments : Faultless limits call (length cache)
   pub well : T (wellFormed limits connection)
@@ -116,10 +109,10 @@ unfolding refusal
 unrefused limits connection call cache e =
     let code = call .event .code in
     let read = inputOf limits call (length cache) in
-    let n = none-of 0 (faults code read (illFormed limits connection) (exhausted limits connection code read)) e in
+    let n = none-of 0 (faults limits connection code read) e in
     let last = n .1 .1 .1 .1 .1 .1 in
     record {
-      arguments = unfaulted limits call (length cache) (illFormed limits connection) (exhausted limits connection code read) e;
+      arguments = faultless limits call (length cache) (none-first (earlyFaults code read) (illFormed limits connection ∷ exhausted limits connection code read ∷ lateFaults read) n);
       well = subst⁻¹ T (not-false (wellFormed limits connection) (last .0)) tt;
       room = λ s. other-fails (not (eqb (next limits connection call cache) table.ignored)) (eqb (connection .handled) (limits .handled)) (last .1 .0) (subst⁻¹ (λ (b : Bool). T (not b)) s tt);
     }

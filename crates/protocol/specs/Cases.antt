@@ -16,7 +16,7 @@ use Rattle.protocol.specs.declared.Answer.{Answer}
 use Rattle.protocol.specs.declared.Answer.the-variants.{Handled, Ignored}
 use Rattle.event.specs.declared.Event.{Event}
 
--- An event with these fields; the others are 0, the margin of document 01's cases with them.
+-- An event with these fields; the others are 0, the margin too, which document 01's cases don't have.
 abbrev pub event : (code tag bit : ℕ) (verdict : Bool) (expiry now : ℤ) → Event
 event code tag bit verdict expiry now = record { code = code; tag = tag; timer = 0; bit = bit; verdict = verdict; margin = 0; expiry = expiry; now = now }
 

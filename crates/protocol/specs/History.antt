@@ -10,7 +10,7 @@ use Rattle.event.specs.Kind.{named}
 use Rattle.record.specs.Limits.{Limits}
 use Rattle.record.specs.Timer.{Timer, H, HP, HV, DAT, RA, ACK}
 use Rattle.table.specs.Sets.{isIn}
-use Rattle.protocol.specs.Faults.{lowest}
+use Rattle.protocol.specs.Faults.{early, late}
 use Rattle.protocol.specs.Notes.{Opening, fresh, helloSent, opened, locked, off, running, good, Notes, isFresh, isHelloSent, isOpen, isRunning, isGood, isMissing, attested}
 use Rattle.protocol.specs.declared.Answer.{Answer}
 use Rattle.protocol.specs.declared.Answer.the-variants.{Handled, Ignored, Refused}
@@ -209,12 +209,14 @@ abbrev pub countsCall : Limits → (cacheLength : ℕ) → History → Call → 
 countsCall limits cacheLength history call =
     counts (history .notes) (call .event .code) (hear history (inputOf limits call cacheLength))
 
--- The number of a call's refusal, 0 for none: that of a fault of the arguments, or 8 if the event counts and the count is the largest.
--- There is no fault 7 without a record.
+-- The number of a call's refusal, 0 for none: the lowest of 1 to 6 if the arguments have one of these faults, else 8 if the event counts
+-- and the count is the largest, else 9 if they have its fault.
 unfoldable pub refusalTo : Limits → (cacheLength : ℕ) → History → Call → ℕ
 refusalTo limits cacheLength history call =
-    lowest (call .event .code) (inputOf limits call cacheLength) false
-    (countsCall limits cacheLength history call && eqb (history .count) (limits .handled))
+    let input = inputOf limits call cacheLength in
+    let lower = early (call .event .code) input in
+    let full = countsCall limits cacheLength history call && eqb (history .count) (limits .handled) in
+    cond (eqb lower 0) (cond full 8 (late input)) lower
 
 -- Refused with that number, else handled if the event counts, ignored if not.
 abbrev pub answerBy : (refusal : ℕ) (takes : Bool) → Answer

@@ -1,11 +1,11 @@
--- Integers as differences of naturals, which omega reads: a test, a subtraction and a signed 64-bit range become facts of naturals.
+-- Integers as differences of naturals, which omega reads: a test, a sum, a subtraction and a signed 64-bit range become facts of naturals.
 use mathlib.Core.Path.{_≡_, refl, sym, _∙_}
 use mathlib.Core.Bool.{Bool, true, false, cond}
 use Prim.Native.Nat.{ℕ, zero, suc, _+_, _-_, _<_, _≤_, _^_}
 use native.Mathlib.Omega.{arith}
 use borrow.Author.Tests.{ltb-true, ltb-false, lt-ltb, le-ltb}
 use lib.Dec.{ltb}
-use lib.IntN.{ℤ, pos, negsuc, _-ℤ_}
+use lib.IntN.{ℤ, pos, negsuc, negℤ, _+ℤ_, _-ℤ_}
 use lib.Signed.{ltZ}
 use mir.Syntax.{w64}
 use mir.Val.{SFits, toZ, ofZ}
@@ -61,13 +61,19 @@ apart : (t : Bool) (n m a b : ℕ) → ltb n m ≡ t → n + b ≡ a + m → Dif
 apart true n m a b h e = omega (arith, ltb-true)
 apart false n m a b h e = omega (arith, ltb-false)
 
+pub plus : {x y : ℤ} {a b c d : ℕ} → Diff x a b → Diff y c d → Diff (x +ℤ y) (a + c) (b + d)
+plus {x = pos n} {y = pos m} p q = omega arith
+plus {x = pos n} {y = negsuc m} p q = apart _ n (suc m) _ _ refl (omega arith)
+plus {x = negsuc n} {y = pos m} p q = apart _ m (suc n) _ _ refl (omega arith)
+plus {x = negsuc n} {y = negsuc m} p q = omega arith
+
+opposite : {y : ℤ} {c d : ℕ} → Diff y c d → Diff (negℤ y) d c
+opposite {y = pos zero} q = omega arith
+opposite {y = pos (suc m)} q = omega arith
+opposite {y = negsuc m} q = omega arith
+
 pub minus : {x y : ℤ} {a b c d : ℕ} → Diff x a b → Diff y c d → Diff (x -ℤ y) (a + d) (b + c)
-minus {x = pos n} {y = pos zero} p q = omega arith
-minus {x = pos n} {y = pos (suc m)} p q = apart _ n (suc m) _ _ refl (omega arith)
-minus {x = pos n} {y = negsuc m} p q = omega arith
-minus {x = negsuc n} {y = pos zero} p q = apart _ 0 (suc n) _ _ refl (omega arith)
-minus {x = negsuc n} {y = pos (suc m)} p q = omega arith
-minus {x = negsuc n} {y = negsuc m} p q = apart _ (suc m) (suc n) _ _ refl (omega arith)
+minus p q = plus p (opposite q)
 
 pub fits : {z : ℤ} {a b : ℕ} → Diff z a b → a < b + 2 ^ 63 → b ≤ a + 2 ^ 63 → SFits w64 z
 fits {z = pos n} p h l = omega arith
@@ -77,9 +83,9 @@ fits {z = negsuc n} p h l = omega arith
 pub held : {z : ℤ} {a b : ℕ} → Diff z a b → SFits w64 z → Diff (toZ w64 (ofZ w64 z)) a b
 held p h = rw (toZ-ofZ h) p
 
--- What it reads from the bits of a natural number below 2^63.
-pub natural : {n : ℕ} → n < 2 ^ 63 → Diff (toZ w64 n) n 0
-natural h = rw (toZ-pos w64 h) (parts (pos _))
+-- What it reads from those of an unsigned number below 2^63.
+pub unsigned : {n : ℕ} → n < 2 ^ 63 → Diff (toZ w64 n) n 0
+unsigned h = rw (toZ-pos w64 h) (parts (pos _))
 
 -- An argument as the machine reads it, with its bounds, which omega finds.
 pub record Word (z : ℤ) : Type 0 where

@@ -1,4 +1,4 @@
--- Request #104: with margin 0 all cases of document 01 hold, since seconds left is document 01's.
+-- Request #104: with margin 0 seconds left is document 01's.
 use mathlib.Core.Path.{_≡_, ap}
 use lib.IntN.{ℤ, _-ℤ_, +ℤ-idr}
 use Rattle.token.specs.Answer.{left, timeLeft}

@@ -17,6 +17,6 @@ clamped z = cond (ltZ z (negℤ day)) (negℤ day) (cond (ltZ day z) day z)
 unfoldable pub secondsLeft : (expiry now : ℤ) (margin : ℕ) → ℤ
 secondsLeft expiry now margin = clamped ((expiry -ℤ now) -ℤ pos margin)
 
--- The fault of refusal 9: a margin is at most 300.
+-- The fault of refusal 9: the margin is above 300.
 abbrev pub marginTooLarge : ℕ → Bool
 marginTooLarge margin = ltb 300 margin

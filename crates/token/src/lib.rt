@@ -27,8 +27,9 @@ pub fn margin_too_large(margin: u32) -> bool
     margin > MAX_MARGIN
 }
 
-// Expiry minus now minus margin, worked out exactly, then clamped to a day either way. What is clamped is a margin more,
-// and so are the bounds. Comparing `now` with a bound before or after expiry keeps the subtraction within 64 bits.
+// Expiry minus now minus margin, worked out exactly, then clamped to a day either way. Expiry minus now is compared with
+// both bounds raised by the margin, which is taken last; comparing `now` first with expiry less a bound keeps the
+// subtraction within 64 bits.
 pub fn seconds_left(expiry: i64, now: i64, margin: u32) -> TimeLeft
     ensures { λ r. ⌜ answerOf r ≡ timeLeft expiry now margin ⌝ }
 {
@@ -37,7 +38,7 @@ pub fn seconds_left(expiry: i64, now: i64, margin: u32) -> TimeLeft
     }
     let early = margin as i64;
     let least = early - DAY;
-    let most = early - MINUS_DAY;
+    let most = early + DAY;
     if expiry < 0 {
         if expiry - least < now {
             return TimeLeft::Seconds(MINUS_DAY);
@@ -56,7 +57,7 @@ pub fn seconds_left(expiry: i64, now: i64, margin: u32) -> TimeLeft
     TimeLeft::Seconds(left)
 }
 
-// The seconds left of a good token, which are the DAT timer's length; 0 for a bad one.
+// The seconds left of a good token, which are the DAT timer's length; 0 for a bad one, and where the margin is refused.
 pub fn good_seconds(verdict: bool, expiry: i64, now: i64, margin: u32) -> u32
     ensures { λ r. ⌜ r ≡ goodSeconds verdict (timeLeft expiry now margin .seconds) ⌝ }
 {

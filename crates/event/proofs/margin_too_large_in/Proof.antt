@@ -13,6 +13,6 @@ margin-too-large-in-spec =
     tie.close
     (tie.spec
     (λ c. search needs)
-    (λ c. alike (λ kind. false) (λ kind. fieldsOf kind .marginTooLarge) (0 ∷ 1 ∷ 2 ∷ 3 ∷ []) (refl, (λ tag. refl, (λ tag timer. refl, λ bit. refl))) (c .before .args .kind) (c .match .keys2))
+    (λ c. alike (λ kind. false) (λ kind. fieldsOf kind .largeMargin) (0 ∷ 1 ∷ 2 ∷ 3 ∷ []) (refl, (λ tag. refl, (λ tag timer. refl, λ bit. refl))) (c .before .args .kind) (c .match .keys2))
     (λ c κs. search needs)
     (λ c. rw (c .before .before .kind .given .1) (c .margin-too-large .ensures)))

@@ -8,6 +8,7 @@ use borrow.Author.Needs.{needs}
 use borrow.Author.Tests.{eq-eqb, ne-eqb, ltb-false, not-false}
 use Rattle.record.specs.Limits.{limits}
 use Rattle.protocol.specs.Condition.{nextState}
+use Rattle.protocol.specs.Faults.{late}
 use Rattle.protocol.specs.Step.{unchanged, handledTo, decided}
 use Rattle.protocol.specs.declared.Answer.the-variants.{Ignored, Refused}
 use Rattle.table.specs.Table.{cell, settled}
@@ -70,7 +71,7 @@ well n =
     subst (λ (b : Bool). T b) (sym (not-false (wellFormed limits (a .connection)) w)) tt
 
 -- The outcome of an event that the table lists, unless a later fault is present.
-goes : (e : tie.Else3) → let n = e .before .before .before in let a = n .before .before .before .before .args in let own = judged.late limits (a .connection) (a .code) (a .input) in
+goes : (e : tie.Else3) → let n = e .before .before .before in let a = n .before .before .before .before .args in let own = late (a .input) in
     cond (eqb own 0) (handledTo (n .next-state .result) (a .connection) (a .code) (a .input)) (unchanged (Refused own) (a .connection)) ≡ decided limits (a .connection) (a .code) (a .input)
 goes e =
     let n = e .before .before .before in
@@ -83,10 +84,10 @@ returns-4 c =
     let e = c .before .before .before in
     let l = e .before .before in
     let a = l .before .before .before .before .before .args in
-    let late = l .late-fault in
+    let given = l .late-fault in
     as-written _ _ _ _ _
-    ((λ i. unchanged (Refused (late .ensures i)) (a .connection)) ∙
-    refused-late (a .also) (a .connection) (a .code) (a .input) (l .before .next-state .result) (goes e) (ap (λ (m : ℕ). eqb m 0) (sym (late .ensures)) ∙ ne-eqb (late .result) 0 (c .before .before .if4 .taken)))
+    ((λ i. unchanged (Refused (given .ensures i)) (a .connection)) ∙
+    refused-late (a .also) (a .connection) (a .code) (a .input) (l .before .next-state .result) (goes e) (ap (λ (m : ℕ). eqb m 0) (sym (given .ensures)) ∙ ne-eqb (given .result) 0 (c .before .before .if4 .taken)))
     (unmoved-written _ _ _ _ _ (c .unmoved4 .ensures .0) (l .before .before .before .before .before .pre) (c .unmoved4 .ensures .1))
 
 -- The outcome of a handled event.
