@@ -287,7 +287,7 @@ typedef struct menhotrac_message {
     size_t size;      /* and how many bytes it has */
 } menhotrac_message;
 
-/* What the host gives with the token in a HELLO or DAT. It is not read for other messages. */
+/* What the host says of the token in a HELLO or DAT. It is not read for other messages. */
 typedef struct menhotrac_token {
     uint32_t verdict; /* enum menhotrac_verdict */
     uint32_t margin;  /* how many seconds before its expiry the token counts as spent, 0 to 300 */
@@ -444,7 +444,7 @@ MENHOTRAC_ABI menhotrac_message menhotrac_read(const uint8_t *bytes, size_t byte
                                                uint32_t verifiers[MENHOTRAC_MAX_SUITES]);
 
 /*
- * The event that a message is, by its number and bit, with what the host gives with the token. A
+ * The event that a message is, by its number and bit, with what the host says of the token. A
  * number that is no message's gives a code that menhotrac_step refuses with 1.
  */
 MENHOTRAC_ABI menhotrac_event menhotrac_event_of(uint32_t number, uint32_t bit,

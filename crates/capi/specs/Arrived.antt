@@ -19,7 +19,7 @@ use Rattle.capi.specs.Verdict.{refusedVerdict}
 use Rattle.capi.specs.declared.FlatEvent.{FlatEvent}
 use Rattle.capi.specs.declared.FlatToken.{FlatToken}
 
--- An event with a bit, and with what the host gives with the token. A message carries no tag and names no timer.
+-- An event with a bit, and with what the host says of the token. A message carries no tag and names no timer.
 abbrev pub flatEventWith : (code bit : ℕ) → FlatToken → FlatEvent
 flatEventWith code bit token = record {
   code = code;

@@ -88,7 +88,7 @@ fn refused_as(flat: FlatEvent) -> u32
     }
 }
 
-// What a host gives with a token, with its verdict as a number.
+// What a host says of a token, with its verdict as a number.
 #[repr(C)]
 pub struct FlatToken {
     pub verdict: u32,
@@ -207,7 +207,7 @@ pub extern "C" fn menhotrac_read(
     read_flat(bytes, provers, verifiers)
 }
 
-// The event that a message is, by its number and bit, with what the host gives with the token.
+// The event that a message is, by its number and bit, with what the host says of the token.
 #[no_mangle]
 pub extern "C" fn menhotrac_event_of(number: u32, bit: u32, token: FlatToken) -> FlatEvent
     ensures { λ r. ⌜ r ≡ flatEventWith (codeOf number) bit token ⌝ }

@@ -7,7 +7,7 @@ use Rattle.token.specs.Answer.{Answer}
 use Rattle.token.specs.Good.{good, goodSeconds}
 use Rattle.token.specs.SecondsLeft.{clamped}
 use Rattle.token.proofs.NoMargin.{no-margin}
-use Rattle.event.specs.Kind.{Fields, fields, fieldsOf}
+use Rattle.event.specs.Kind.{fields, fieldsOf}
 use Rattle.event.specs.declared.EventKind.the-variants.{Token}
 
 -- Whether the token is good, and its seconds, are those of expiry minus now, and fault 9 is absent.

@@ -24,7 +24,7 @@ codeOf number =
     ∷ [])
     number 24
 
--- An event with a bit, and with what the host gives with the token. A message carries no tag and names no timer.
+-- An event with a bit, and with what the host says of the token. A message carries no tag and names no timer.
 abbrev pub eventWith : (code bit : ℕ) → Token → Event
 eventWith code bit token = record {
   code = code;

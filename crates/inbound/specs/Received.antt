@@ -12,7 +12,7 @@ use Rattle.wire.specs.Numbers.{partOf}
 use Rattle.inbound.specs.Arrival.{alsoOf, eventOf}
 use Rattle.inbound.specs.declared.Token.{Token}
 
--- What the host gives with the bytes: what it gives with the token, what its interface refuses of the token or 0 (`resultAlso`),
+-- What the host gives with the bytes: what it says of the token, what its interface refuses of the token or 0 (`resultAlso`),
 -- and its own lists.
 pub record Given : Type 0 where
   pub token : Token

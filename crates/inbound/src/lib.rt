@@ -1,4 +1,4 @@
-// A message that arrived, given to the step. The host hands over the bytes, what it gives with the token, and its own lists.
+// A message that arrived, given to the step. The host hands over the bytes, what it says of the token, and its own lists.
 ghost use mathlib.Core.Path.{_≡_};
 ghost use Rattle.flat.specs.Flat.{recordIn, slotsOf};
 ghost use Rattle.wire.specs.Message.{readingOf};
@@ -19,7 +19,7 @@ use wire::schema;
 // A code that no event has: a step with it is refused.
 const NO_EVENT: u32 = 24;
 
-// What the host gives with a token: its verdict on the signature, how many seconds before its expiry it counts as spent,
+// What the host says of a token: its verdict on the signature, how many seconds before its expiry it counts as spent,
 // when it expires and the time now, in seconds.
 pub struct Token {
     pub verdict: bool,
@@ -52,7 +52,7 @@ pub fn code_of(number: u32) -> u32
     }
 }
 
-// The event that a message is: its bit, and what the host gives with the token.
+// The event that a message is: its bit, and what the host says of the token.
 pub fn event_of(number: u32, bit: u32, token: Token) -> Event
     ensures { λ r. ⌜ r ≡ eventOf number bit token ⌝ }
 {

@@ -1,6 +1,6 @@
 -- Demand 3: after every call of any list the step agrees with the history.
 -- Assumes nothing.
-use mathlib.Core.Path.{_≡_, refl, sym, subst, subst⁻¹, ap, _∙_}
+use mathlib.Core.Path.{_≡_, refl, subst, subst⁻¹, ap, _∙_}
 use mathlib.Core.Bool.{Bool, true, false, not, _&&_, cond}
 use mathlib.Core.List.{List, _∷_}
 use mathlib.Core.Option.{Option}

@@ -4,6 +4,7 @@
 
 pub mod caches;
 pub mod difference;
+pub mod faults;
 pub mod options;
 pub mod outcome;
 pub mod program;

@@ -22,7 +22,7 @@ const TIMES: [i64; 12] = [
     i64::MAX,
 ];
 
-/// What a host gives with a token: mostly one that is good.
+/// What a host says of a token: mostly one that is good.
 pub fn mostly_good(random: &mut Random) -> Token {
     let verdict = verdict(random);
     let margin = margin(random);

@@ -93,7 +93,7 @@ impl Connection {
     /// [`step`](Self::step) does with the event that the message is. A HELLO brings the peer's suite lists; ours are
     /// given with every message.
     ///
-    /// The token is what the host gives with the one in a HELLO or DAT, and is not read for other messages; without it a
+    /// The token is what the host says of the one in a HELLO or DAT, and is not read for other messages; without it a
     /// HELLO or DAT counts as one whose token the host does not accept. [`Received::token`] gives the bytes to check.
     ///
     /// The error says that the bytes are no message. Nothing has changed then; a host that gives the connection up

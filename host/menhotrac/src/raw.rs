@@ -79,7 +79,7 @@ pub struct OurLists<'a> {
     pub provers: &'a [u32],
 }
 
-/// What the host gives with the token in a HELLO or DAT. It is not read for other messages.
+/// What the host says of the token in a HELLO or DAT. It is not read for other messages.
 #[repr(C)]
 #[derive(Clone, Copy, Debug, Default, PartialEq, Eq)]
 pub struct Token {
@@ -400,7 +400,7 @@ pub fn receive(
     }
 }
 
-/// The event that a message is, by its number and bit, with what the host gives with the token.
+/// The event that a message is, by its number and bit, with what the host says of the token.
 pub fn event(number: u32, bit: u32, token: &Token) -> Event {
     // SAFETY: all arguments are plain values.
     unsafe { menhotrac_event_of(number, bit, *token) }

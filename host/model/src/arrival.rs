@@ -4,7 +4,7 @@ use crate::call::{code, Call, Event};
 use crate::suites::Lists;
 use crate::wire::Message;
 
-/// What the host gives with a message: what it gives with the token, and its own
+/// What the host gives with a message: what it says of the token, and its own
 /// suite lists.
 #[derive(Clone, Copy, Debug, Default, PartialEq, Eq)]
 pub struct Given<'a> {

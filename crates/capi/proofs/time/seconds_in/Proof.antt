@@ -1,9 +1,7 @@
 -- `capi::time::seconds_in` meets its contract.
-use mathlib.Core.Path.{_≡_, refl, sym, ap, _∙_}
-use lib.IntN.{ℤ}
+use mathlib.Core.Path.{_≡_, sym, ap, _∙_}
 use mir.Facts.{toZ-ofZ}
 use borrow.Author.Needs.{needs}
-use Rattle.token.specs.Answer.{Answer}
 use Rattle.token.specs.Numbers.{answerOf}
 use Rattle.token.specs.declared.TimeLeft.{TimeLeft}
 use Rattle.capi.proofs.time.seconds_in.Statement.{statement}

@@ -2,6 +2,7 @@
 
 use crate::arrival::Arrival;
 use crate::trial::Read;
+use compare::faults::{of_message, FAULTS, PAIRS};
 use compare::outcome::Outcome;
 use compare::seen::{pairs, seen, size, summed, tally};
 use compare::spoilt::{self, Spoil};
@@ -16,49 +17,25 @@ const MESSAGES: RangeInclusive<u32> = 11..=19;
 /// How many transitions messages make.
 const TRANSITIONS: usize = 41;
 
-/// All answers. Messages cannot have the faults 1 to 3.
-const ANSWERS: [u32; 14] = [
-    HANDLED,
-    4,
-    5,
-    6,
-    7,
-    8,
-    9,
-    21,
-    22,
-    23,
-    24,
-    25,
-    WRONG_VERDICT,
-    IGNORED,
-];
+/// The refusals of the reader.
+const READING: RangeInclusive<u32> = 21..=25;
 
-/// The step's faults that a message can have, by the number of their refusal.
-const FAULTS: [u32; 7] = [4, 5, 6, 7, 8, 9, WRONG_VERDICT];
+/// The faults that are there whatever the message is.
+const HIDDEN: [u32; 2] = [5, 7];
 
-/// Every pair of those that one message can have: 4 asks for another message
-/// than 6, 9 and the wrong verdict do.
-const PAIRS: [(u32, u32); 18] = [
-    (4, 5),
-    (4, 7),
-    (4, 8),
-    (5, 6),
-    (5, 7),
-    (5, 8),
-    (5, 9),
-    (5, WRONG_VERDICT),
-    (6, 7),
-    (6, 8),
-    (6, 9),
-    (6, WRONG_VERDICT),
-    (7, 8),
-    (7, 9),
-    (7, WRONG_VERDICT),
-    (8, 9),
-    (8, WRONG_VERDICT),
-    (9, WRONG_VERDICT),
-];
+/// All answers.
+fn answers() -> BTreeSet<u32> {
+    let faults = FAULTS.into_iter().filter(|&fault| of_message(fault));
+    READING.chain([HANDLED, IGNORED]).chain(faults).collect()
+}
+
+/// Every pair of faults that one message can have, and of a refusal of the reader
+/// with a fault that is there whatever the message is.
+fn all_pairs() -> BTreeSet<(u32, u32)> {
+    let of_step = PAIRS.into_iter().filter(|&(lower, _)| of_message(lower));
+    let hidden = READING.flat_map(|refusal| HIDDEN.map(|fault| (refusal, fault)));
+    of_step.chain(hidden).collect()
+}
 
 /// What the messages of a thread, or of all, have shown.
 #[derive(Clone, Debug, Default)]
@@ -99,12 +76,11 @@ impl Coverage {
         self.pairs.extend(pairs(&faults));
     }
 
-    /// Notes the faults that are there whatever the message is, where the reader
-    /// refused.
+    /// Notes the faults that the reader's refusal hides.
     fn note_hidden(&mut self, arrival: &Arrival, refusal: u32) {
         let call = Call::default();
         let present = |number: &u32| arrival.has_fault(*number, &call);
-        let hidden = [5, 7].into_iter().filter(present);
+        let hidden = HIDDEN.into_iter().filter(present);
         self.pairs.extend(hidden.map(|number| (refusal, number)));
     }
 }
@@ -122,16 +98,14 @@ impl compare::seen::Coverage for Coverage {
     fn summary(&self) -> (String, bool) {
         let by_message = |(_, event, _): &(u32, u32, u32)| MESSAGES.contains(event);
         let possible: BTreeSet<_> = transitions().into_iter().filter(by_message).collect();
-        let answers = self.answers.keys().copied().collect();
-        let hidden = (21..=25).flat_map(|refusal| [(refusal, 5), (refusal, 7)]);
-        let all_pairs = PAIRS.into_iter().chain(hidden).collect();
+        let given = self.answers.keys().copied().collect();
         let spoils = spoilt::all().into_iter().collect();
         summed(&[
             (tally(&self.answers), true),
             size("transitions by messages", possible.len(), TRANSITIONS),
-            seen("answers", &answers, ANSWERS.into()),
+            seen("answers", &given, answers()),
             seen("transitions by messages", &self.transitions, possible),
-            seen("pairs of faults", &self.pairs, all_pairs),
+            seen("pairs of faults", &self.pairs, all_pairs()),
             seen("spoilt clauses", &self.spoils, spoils),
         ])
     }
