@@ -13,10 +13,11 @@ use Rattle.wire.proofs.Lengths.{all-there}
 use Rattle.wire.specs.Fault.{Reading, readAs, refused}
 use Rattle.wire.specs.Message.{Message, made, readingOf}
 use Rattle.wire.specs.Numbers.{entries, partOf}
-use Rattle.capi.specs.Arrived.{JoinedToStep, flatEventWith, tokenOf, tokenRefusal}
+use Rattle.interface.specs.Event.{flatEventWith}
+use Rattle.capi.specs.Arrived.{JoinedToStep, tokenOf, tokenRefusal}
 use Rattle.capi.specs.Returned.{returned, returnedOf}
-use Rattle.capi.specs.Verdict.{refusedAs}
-use Rattle.capi.specs.declared.FlatToken.{FlatToken}
+use Rattle.interface.specs.Verdict.{refusedAs}
+use Rattle.interface.specs.declared.FlatToken.{FlatToken}
 
 -- A wrong verdict is refused with the messages that carry a token.
 same-refusal : (n bit : ℕ) (token : FlatToken) → refusedAs (flatEventWith (codeOf n) bit token) ≡ alsoOf n (tokenRefusal token)

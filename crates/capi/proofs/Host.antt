@@ -22,7 +22,7 @@ use Rattle.record.specs.WellFormed.{fresh}
 use Rattle.record.specs.declared.Connection.{Connection}
 use Rattle.capi.specs.Host.{FlatCall, callIn, callsIn, AllRight, Got, Holds, Lent, lentBy, AllPromised, AllShow}
 use Rattle.capi.specs.Returned.{Returned, returned, returnedOf}
-use Rattle.capi.specs.Verdict.{refusedVerdict, wrongVerdict}
+use Rattle.interface.specs.Verdict.{refusedVerdict, wrongVerdict}
 use Rattle.connection.proofs.Also.{none-also}
 use Rattle.protocol.proofs.Agreement.{demand3}
 use Rattle.protocol.proofs.Audit.{audit}

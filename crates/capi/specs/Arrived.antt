@@ -15,22 +15,9 @@ use Rattle.wire.specs.Flat.{readingBy}
 use Rattle.wire.specs.Message.{readingOf}
 use Rattle.wire.specs.declared.flat.FlatMessage.{FlatMessage}
 use Rattle.capi.specs.Returned.{returned, returnedOf}
-use Rattle.capi.specs.Verdict.{refusedVerdict}
-use Rattle.capi.specs.declared.FlatEvent.{FlatEvent}
-use Rattle.capi.specs.declared.FlatToken.{FlatToken}
-
--- An event with a bit, and with what the host says of the token. A message carries no tag and names no timer.
-abbrev pub flatEventWith : (code bit : ℕ) → FlatToken → FlatEvent
-flatEventWith code bit token = record {
-  code = code;
-  tag = 0;
-  timer = 0;
-  bit = bit;
-  verdict = token .verdict;
-  margin = token .margin;
-  expiry = token .expiry;
-  now = token .now;
-}
+use Rattle.interface.specs.Event.{flatEventWith}
+use Rattle.interface.specs.Verdict.{refusedVerdict}
+use Rattle.interface.specs.declared.FlatToken.{FlatToken}
 
 -- The same token with its verdict as yes or no.
 abbrev pub tokenOf : FlatToken → Token

@@ -8,8 +8,9 @@ use Rattle.event.specs.Call.{Call, callOf}
 use Rattle.protocol.specs.Along.{Along}
 use Rattle.protocol.specs.Step.{Result}
 use Rattle.capi.specs.Returned.{Returned, returned, returnedOf}
-use Rattle.capi.specs.Verdict.{wrongVerdict, eventOf}
-use Rattle.capi.specs.declared.FlatEvent.{FlatEvent}
+use Rattle.interface.specs.Event.{eventOf}
+use Rattle.interface.specs.Verdict.{wrongVerdict}
+use Rattle.interface.specs.declared.FlatEvent.{FlatEvent}
 
 -- One call of a host in C, without record and cache.
 pub record FlatCall : Type 0 where

@@ -6,9 +6,10 @@ use Rattle.flat.specs.Flat.{recordIn, slotsOf}
 use Rattle.event.specs.Call.{callOf}
 use Rattle.record.specs.declared.Connection.{Connection}
 use Rattle.protocol.specs.Step.{Result}
-use Rattle.capi.specs.Answer.{answerNumber}
-use Rattle.capi.specs.Verdict.{refusedAs, eventOf}
-use Rattle.capi.specs.declared.FlatEvent.{FlatEvent}
+use Rattle.interface.specs.Answer.{answerNumber}
+use Rattle.interface.specs.Event.{eventOf}
+use Rattle.interface.specs.Verdict.{refusedAs}
+use Rattle.interface.specs.declared.FlatEvent.{FlatEvent}
 
 -- The answer as a number, the record that the twelve numbers are, the sixteen slots of the order sheet, the cache, and the payload part.
 pub record Returned : Type 0 where

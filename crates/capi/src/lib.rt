@@ -5,13 +5,12 @@
 ghost use mathlib.Core.Path.{_≡_};
 ghost use Prim.Native.Nat.{_+_, _≤_};
 ghost use lib.ListN.{length};
-ghost use Rattle.capi.specs.Choice.{chosenOf};
-ghost use Rattle.capi.specs.Arrived.{flatEventWith};
 ghost use Rattle.capi.specs.Part.{Within, partIn};
 ghost use Rattle.capi.specs.Returned.{returned};
-ghost use Rattle.capi.specs.Verdict.{eventOf, refusedAs, wrongVerdict};
 ghost use Rattle.inbound.specs.Arrival.{codeOf};
 ghost use Rattle.flat.specs.Flat.{numbersOf, recordIn};
+ghost use Rattle.interface.specs.Choice.{chosenOf};
+ghost use Rattle.interface.specs.Event.{flatEventWith};
 ghost use Rattle.record.specs.WellFormed as spec;
 ghost use Rattle.suites.specs.Choice.{choice};
 ghost use Rattle.token.specs.Answer.{timeLeft};
@@ -19,98 +18,22 @@ ghost use Rattle.wire.specs.Flat.{flatIn, readingBy};
 ghost use Rattle.wire.specs.Message.{readingOf};
 ghost use Rattle.wire.specs.Numbers.{proversAfter, verifiersAfter};
 
-mod answer;
-mod choice;
-mod time;
-
-use crate::answer::number_of;
-use crate::choice::numbers_in;
-use crate::choice::refusal_in;
-use connection::Event;
-use connection::codes;
 use connection::fresh;
-use connection::refusals;
 use connection::step_flat;
 use flat::numbers_of;
 use inbound::code_of;
+use interface::FlatEvent;
+use interface::FlatToken;
+use interface::answer;
+use interface::choice;
+use interface::event_in;
+use interface::event_of;
+use interface::refused_as;
+use interface::time;
 use suites::choose;
 use token::seconds_left;
 use wire::FlatMessage;
 use wire::read_flat;
-
-const YES: u32 = 1;
-
-// A verdict that is neither 0 nor 1.
-const WRONG_VERDICT: u32 = 41;
-
-// An event as a host in C hands it over: `Event` with the verdict as a number.
-#[repr(C)]
-pub struct FlatEvent {
-    pub code: u32,
-    pub tag: u32,
-    pub timer: u32,
-    pub bit: u32,
-    pub verdict: u32,
-    pub margin: u32,
-    pub expiry: i64,
-    pub now: i64,
-}
-
-fn event_of(flat: FlatEvent) -> Event
-    ensures { λ r. ⌜ r ≡ eventOf flat ⌝ }
-{
-    Event {
-        code: flat.code,
-        tag: flat.tag,
-        timer: flat.timer,
-        bit: flat.bit,
-        verdict: flat.verdict == YES,
-        margin: flat.margin,
-        expiry: flat.expiry,
-        now: flat.now,
-    }
-}
-
-fn wrong_verdict(flat: FlatEvent) -> bool
-    ensures { λ r. ⌜ r ≡ wrongVerdict flat ⌝ }
-{
-    ((flat.code == codes::SC_HELLO) | (flat.code == codes::SC_DAT)) & (flat.verdict > YES)
-}
-
-// The interface's own refusal of an event, 0 for none.
-fn refused_as(flat: FlatEvent) -> u32
-    ensures { λ r. ⌜ r ≡ refusedAs flat ⌝ }
-{
-    if wrong_verdict(flat) {
-        WRONG_VERDICT
-    } else {
-        refusals::NONE
-    }
-}
-
-// What a host says of a token, with its verdict as a number.
-#[repr(C)]
-pub struct FlatToken {
-    pub verdict: u32,
-    pub margin: u32,
-    pub expiry: i64,
-    pub now: i64,
-}
-
-fn event_in(code: u32, bit: u32, token: FlatToken) -> FlatEvent
-    ensures { λ r. ⌜ r ≡ flatEventWith code bit token ⌝ }
-{
-    FlatEvent {
-        code,
-        tag: 0,
-        timer: 0,
-        bit,
-        verdict: token.verdict,
-        margin: token.margin,
-        expiry: token.expiry,
-        now: token.now,
-    }
-}
 
 // The record of a new connection.
 #[no_mangle]
@@ -148,9 +71,9 @@ pub extern "C" fn menhotrac_choose_suites(
     ensures { λ r. ⌜ r ≡ choice (now («our_verifiers» .entry)) (now («peer_provers» .entry)) (now («peer_verifiers» .entry)) (now («our_provers» .entry)) .refusal ⌝ }
     ensures { λ _. ⌜ now (chosen .exit) ≡ chosenOf (choice (now («our_verifiers» .entry)) (now («peer_provers» .entry)) (now («peer_verifiers» .entry)) (now («our_provers» .entry))) ⌝ }
 {
-    let choice = choose(our_verifiers, peer_provers, peer_verifiers, our_provers);
-    *chosen = numbers_in(choice);
-    refusal_in(choice)
+    let made = choose(our_verifiers, peer_provers, peer_verifiers, our_provers);
+    *chosen = choice::numbers_in(made);
+    choice::refusal_in(made)
 }
 
 // One step. It changes the record and writes the actions; a handled `UPPER_SEND_DATA` writes the cache. The payload part
@@ -186,7 +109,7 @@ pub extern "C" fn menhotrac_step(
         cache,
         actions,
     );
-    number_of(answer)
+    answer::number_of(answer)
 }
 
 // Reads one message. A hello's suites are written to the two lists, followed by zeros; for any other message, and for bytes

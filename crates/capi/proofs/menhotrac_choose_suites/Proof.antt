@@ -2,7 +2,7 @@
 use mathlib.Core.Path.{ap, _∙_}
 use borrow.Author.Needs.{needs}
 use Rattle.suites.specs.Answer.{Answer}
-use Rattle.capi.specs.Choice.{chosenOf}
+use Rattle.interface.specs.Choice.{chosenOf}
 use Rattle.capi.proofs.menhotrac_choose_suites.Statement.{statement}
 use Rattle.capi.proofs.menhotrac_choose_suites.Tie as tie
 

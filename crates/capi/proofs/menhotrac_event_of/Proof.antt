@@ -2,7 +2,7 @@
 use mathlib.Core.Path.{ap, _∙_}
 use Prim.Native.Nat.{ℕ}
 use borrow.Author.Needs.{needs}
-use Rattle.capi.specs.Arrived.{flatEventWith}
+use Rattle.interface.specs.Event.{flatEventWith}
 use Rattle.capi.proofs.menhotrac_event_of.Statement.{statement}
 use Rattle.capi.proofs.menhotrac_event_of.Tie as tie
 

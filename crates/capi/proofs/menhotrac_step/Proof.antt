@@ -8,9 +8,10 @@ use Rattle.flat.specs.Flat.{recordIn, slotsOf}
 use Rattle.event.specs.Call.{callOf}
 use Rattle.event.specs.declared.Event.{Event}
 use Rattle.protocol.specs.Step.{Result}
-use Rattle.capi.specs.Answer.{answerNumber}
+use Rattle.interface.specs.Answer.{answerNumber}
 use Rattle.capi.specs.Returned.{returned}
-use Rattle.capi.specs.Verdict.{refusedAs, eventOf}
+use Rattle.interface.specs.Event.{eventOf}
+use Rattle.interface.specs.Verdict.{refusedAs}
 use Rattle.capi.proofs.Part.{taken}
 use Rattle.capi.proofs.menhotrac_step.Statement.{statement}
 use Rattle.capi.proofs.menhotrac_step.Tie as tie

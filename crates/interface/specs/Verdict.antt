@@ -1,11 +1,10 @@
--- The event as a host in C hands it over: the verdict on a token is a number.
+-- The verdict on a token is a number, and one that is neither 0 nor 1 is refused.
 use Prim.Native.Nat.{ℕ}
 use mathlib.Core.Bool.{Bool, _&&_, cond}
 use mathlib.Core.List.{[], _∷_}
 use lib.Dec.{eqb, ltb}
 use Rattle.table.specs.Sets.{isIn}
-use Rattle.event.specs.declared.Event.{Event}
-use Rattle.capi.specs.declared.FlatEvent.{FlatEvent}
+use Rattle.interface.specs.declared.FlatEvent.{FlatEvent}
 
 -- The refusal of a verdict that is neither 0 nor 1.
 abbrev pub refusedVerdict : ℕ
@@ -18,16 +17,3 @@ wrongVerdict flat = isIn (11 ∷ 13 ∷ []) (flat .code) && ltb 1 (flat .verdict
 -- The interface's own refusal of an event, 0 for none.
 abbrev pub refusedAs : FlatEvent → ℕ
 refusedAs flat = cond (wrongVerdict flat) refusedVerdict 0
-
--- The event of document 01.
-abbrev pub eventOf : FlatEvent → Event
-eventOf flat = record {
-  code = flat .code;
-  tag = flat .tag;
-  timer = flat .timer;
-  bit = flat .bit;
-  verdict = eqb (flat .verdict) 1;
-  margin = flat .margin;
-  expiry = flat .expiry;
-  now = flat .now;
-}

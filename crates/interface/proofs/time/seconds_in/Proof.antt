@@ -1,11 +1,11 @@
--- `capi::time::seconds_in` meets its contract.
+-- `interface::time::seconds_in` meets its contract.
 use mathlib.Core.Path.{_≡_, sym, ap, _∙_}
 use mir.Facts.{toZ-ofZ}
 use borrow.Author.Needs.{needs}
 use Rattle.token.specs.Numbers.{answerOf}
 use Rattle.token.specs.declared.TimeLeft.{TimeLeft}
-use Rattle.capi.proofs.time.seconds_in.Statement.{statement}
-use Rattle.capi.proofs.time.seconds_in.Tie as tie
+use Rattle.interface.proofs.time.seconds_in.Statement.{statement}
+use Rattle.interface.proofs.time.seconds_in.Tie as tie
 
 -- The seconds of a known answer.
 seconds-of : {a b : TimeLeft} → a ≡ b → answerOf b .seconds ≡ answerOf a .seconds

@@ -1,11 +1,11 @@
 // The time left of a token in numbers.
 ghost use mathlib.Core.Path.{_≡_};
 ghost use Rattle.token.specs.Numbers.{answerOf};
-use connection::refusals;
+use protocol::refusals;
 use token::TimeLeft;
 
 // The number of its refusal, 0 for none.
-pub(crate) fn refusal_in(time: TimeLeft) -> u32
+pub fn refusal_in(time: TimeLeft) -> u32
     ensures { λ r. ⌜ r ≡ answerOf time .refusal ⌝ }
 {
     match time {
@@ -15,7 +15,7 @@ pub(crate) fn refusal_in(time: TimeLeft) -> u32
 }
 
 // The seconds, 0 where they are refused.
-pub(crate) fn seconds_in(time: TimeLeft) -> i64
+pub fn seconds_in(time: TimeLeft) -> i64
     ensures { λ r. ⌜ r ≡ answerOf time .seconds ⌝ }
 {
     let TimeLeft::Seconds(seconds) = time else {

@@ -1,7 +1,7 @@
--- `capi::refused_as` meets its contract.
+-- `interface::refused_as` meets its contract.
 use borrow.Author.Needs.{needs}
-use Rattle.capi.proofs.refused_as.Statement.{statement}
-use Rattle.capi.proofs.refused_as.Tie as tie
+use Rattle.interface.proofs.refused_as.Statement.{statement}
+use Rattle.interface.proofs.refused_as.Tie as tie
 
 pub refused-as-spec : {M : Type 1} → statement M
 refused-as-spec =

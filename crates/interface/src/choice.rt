@@ -1,15 +1,15 @@
 // The suite choice in numbers.
 ghost use mathlib.Core.Path.{_≡_};
-ghost use Rattle.capi.specs.Choice.{chosenOf};
+ghost use Rattle.interface.specs.Choice.{chosenOf};
 ghost use Rattle.flat.specs.Flat.{asNumber};
 ghost use Rattle.suites.specs.Numbers.{answerOf, foundOf};
-use connection::refusals;
 use flat::as_number;
+use protocol::refusals;
 use suites::Choice;
 use suites::Common;
 
 // The number of its refusal, 0 for none.
-pub(crate) fn refusal_in(choice: Choice) -> u32
+pub fn refusal_in(choice: Choice) -> u32
     ensures { λ r. ⌜ r ≡ answerOf choice .refusal ⌝ }
 {
     match choice {
@@ -22,7 +22,7 @@ pub(crate) fn refusal_in(choice: Choice) -> u32
 }
 
 // Whether each suite was found, and its number.
-pub(crate) fn numbers_in(choice: Choice) -> [u32; 4]
+pub fn numbers_in(choice: Choice) -> [u32; 4]
     ensures { λ r. ⌜ r ≡ chosenOf (answerOf choice) ⌝ }
 {
     let Choice::Chosen { verifier, prover } = choice else {

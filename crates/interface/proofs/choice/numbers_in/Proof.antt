@@ -1,7 +1,7 @@
--- `capi::choice::numbers_in` meets its contract.
+-- `interface::choice::numbers_in` meets its contract.
 use borrow.Author.Needs.{needs}
-use Rattle.capi.proofs.choice.numbers_in.Statement.{statement}
-use Rattle.capi.proofs.choice.numbers_in.Tie as tie
+use Rattle.interface.proofs.choice.numbers_in.Statement.{statement}
+use Rattle.interface.proofs.choice.numbers_in.Tie as tie
 
 returns-2 : tie.Need-returns-2
 returns-2 c =
