@@ -17,7 +17,6 @@ ghost use Rattle.token.specs.Answer.{timeLeft};
 ghost use Rattle.wire.specs.Flat.{flatIn, readingBy};
 ghost use Rattle.wire.specs.Message.{readingOf};
 ghost use Rattle.wire.specs.Numbers.{proversAfter, verifiersAfter};
-
 use connection::fresh;
 use connection::step_flat;
 use flat::numbers_of;
