@@ -23,11 +23,11 @@ use moves::lock;
 use protocol::Answer;
 use protocol::refusals;
 use record::Connection;
-use record::well_formed;
 use table::IGNORED;
 use table::codes;
 use table::next_state;
 use table::states;
+use well_formed::well_formed;
 
 const MAX_BIT: u32 = 1;
 

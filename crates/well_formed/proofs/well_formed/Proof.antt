@@ -1,15 +1,15 @@
--- `record::well_formed` meets its contract.
+-- `well_formed::well_formed` meets its contract.
 use mathlib.Core.Path.{sym, subst}
 use mathlib.Core.Bool.{Bool, _&&_}
 use lib.Dec.{T}
 use borrow.Author.Needs.{needs}
 use borrow.Author.Tests.{not-true, not-false}
 use Rattle.record.specs.Limits.{limits}
 use Rattle.record.specs.WellFormed.{wellFormed}
 use Rattle.table.proofs.Finite.{and-left}
 use Rattle.record.proofs.WellFormed.{state-fits}
-use Rattle.record.proofs.well_formed.Statement.{statement}
-use Rattle.record.proofs.well_formed.Tie as tie
+use Rattle.well_formed.proofs.well_formed.Statement.{statement}
+use Rattle.well_formed.proofs.well_formed.Tie as tie
 
 fits-state-requires : tie.Need-fits-state-requires
 fits-state-requires c κs =

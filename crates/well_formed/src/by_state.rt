@@ -1,8 +1,8 @@
 // What number, flag, bits and tags of a well-formed record are in each state.
 ghost use mathlib.Core.Path.{_≡_};
 ghost use lib.Dec.{T, leb};
 ghost use Rattle.record.specs.WellFormed.{fitsState};
-use crate::Connection;
+use record::Connection;
 use table::states;
 
 // Whether number, flag, bits and tags are those of the state.

@@ -1,4 +1,4 @@
--- `record::by_state::fits_state` meets its contract.
+-- `well_formed::by_state::fits_state` meets its contract.
 use mathlib.Core.Path.{_≡_, refl, sym, ap, _∙_}
 use mathlib.Core.List.{[], _∷_}
 use mathlib.Core.Bool.{Bool}
@@ -6,11 +6,11 @@ use Prim.Native.Nat.{ℕ, _≤_}
 use native.Mathlib.Omega.{arith}
 use lib.Dec.{T, leb, leb→le}
 use borrow.Author.Needs.{needs}
 use Rattle.record.specs.WellFormed.{fitsState}
 use Rattle.record.specs.declared.Connection.{Connection}
 use Rattle.table.proofs.Arms.{beyond}
-use Rattle.record.proofs.by_state.fits_state.Statement.{statement}
-use Rattle.record.proofs.by_state.fits_state.Tie as tie
+use Rattle.well_formed.proofs.by_state.fits_state.Statement.{statement}
+use Rattle.well_formed.proofs.by_state.fits_state.Tie as tie
 
 in-state : {r : Bool} (s t : ℕ) (connection : Connection) → r ≡ fitsState t connection → s ≡ t → r ≡ fitsState s connection
 in-state s t connection e k = e ∙ ap (λ (n : ℕ). fitsState n connection) (sym k)
