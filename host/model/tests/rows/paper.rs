@@ -23,7 +23,7 @@ struct Case<'a> {
 }
 
 /// The boot run's lists and a cache of zeros, which nothing is written to.
-const QUIET: Case = Case {
+const USUAL: Case = Case {
     record: FRESH,
     event: "",
     payload: "",
@@ -36,22 +36,26 @@ const QUIET: Case = Case {
     cache_after: CACHE,
 };
 
+/// The boot run's block in the cache.
+const WITH_BLOCK: Case = Case {
+    cache: "626c6f636b 4091*00",
+    cache_after: "1*62 1*6c 1*6f 1*63 1*6b 4091*00",
+    ..USUAL
+};
+
 impl Case<'_> {
     fn row(&self) -> String {
-        let Case { record, event, .. } = self;
-        let Case { payload, cache, .. } = self;
-        format!(
-            "step {record} ; {event} ; {payload} ; {cache} ; {}",
-            self.lists
-        )
+        let start = ["step", self.record, ";", self.event, ";", self.payload];
+        let end = [";", self.cache, ";", self.lists];
+        [&start[..], &end].concat().join(" ")
     }
 
     fn text(&self) -> String {
         let answer = self.answer.to_string();
         let start = ["step", &answer, ";", self.after, ";", self.actions];
         let end = [";", self.part, ";", self.cache_after];
-        let items = start.into_iter().chain(end);
-        let items: Vec<&str> = items.filter(|item| !item.is_empty()).collect();
+        let mut items = [&start[..], &end].concat();
+        items.retain(|item| !item.is_empty());
         items.join(" ")
     }
 }
@@ -68,7 +72,7 @@ fn unchanged<'a>(answer: u32, record: &'a str, event: &'a str) -> Case<'a> {
         event,
         answer,
         after: record,
-        ..QUIET
+        ..USUAL
     }
 }
 
@@ -91,21 +95,21 @@ fn boot_run_up_to_the_block() {
             event: "0 0 0 0 0 0 0 0",
             after: GREETED,
             actions: "1 0 0 1 0 0 0 0 0 0 0 0 0 0 0 0",
-            ..QUIET
+            ..USUAL
         },
         Case {
             record: GREETED,
             event: HELLO,
             after: OPEN,
             actions: "0 1 1 2 1 1 1 0 0 60 0 0 7 3 0 0",
-            ..QUIET
+            ..USUAL
         },
         Case {
             record: OPEN,
             event: "7 2 0 0 0 0 0 0",
             after: PROVED,
             actions: "0 0 0 0 2 0 0 0 0 0 0 0 0 0 0 0",
-            ..QUIET
+            ..USUAL
         },
         unchanged(100, PROVED, "4 1 0 0 0 0 0 0"),
         Case {
@@ -113,19 +117,13 @@ fn boot_run_up_to_the_block() {
             event: "4 2 0 0 0 0 0 0",
             after: ESTABLISHED,
             actions: "0 0 0 0 0 2 0 1 0 0 0 0 0 0 0 0",
-            ..QUIET
+            ..USUAL
         },
     ]);
 }
 
 #[test]
 fn boot_run_from_the_block() {
-    let (filled, printed) = ("626c6f636b 4091*00", format!("{BLOCK} 4091*00"));
-    let with_block = Case {
-        cache: filled,
-        cache_after: &printed,
-        ..QUIET
-    };
     check(&[
         Case {
             record: ESTABLISHED,
@@ -134,29 +132,29 @@ fn boot_run_from_the_block() {
             after: WAITING,
             actions: "8 0 0 0 0 0 0 0 1 0 0 0 0 0 2 5",
             part: BLOCK,
-            cache_after: &printed,
-            ..QUIET
+            cache: CACHE,
+            ..WITH_BLOCK
         },
         Case {
             record: WAITING,
             event: "17 0 0 0 0 0 0 0",
             after: PROVING,
             actions: "0 1 0 0 1 0 0 0 2 0 0 0 0 0 0 0",
-            ..with_block
+            ..WITH_BLOCK
         },
         unchanged(100, PROVING, "7 2 0 0 0 0 0 0"),
         Case {
             record: PROVING,
             event: "19 0 0 0 0 0 0 0",
             after: ACKNOWLEDGED,
-            ..with_block
+            ..WITH_BLOCK
         },
         Case {
             record: ACKNOWLEDGED,
             event: "7 6 0 0 0 0 0 0",
             after: AGAIN,
             actions: "0 0 0 0 2 0 0 0 0 0 0 0 0 0 0 0",
-            ..with_block
+            ..WITH_BLOCK
         },
     ]);
 }
@@ -174,7 +172,7 @@ fn parts_of_cache_and_payload() {
             actions: "8 0 0 0 0 0 0 0 1 0 0 0 0 0 2 5",
             part: BLOCK,
             cache_after: "1*62 1*6c 1*6f 1*63 2*6b 4090*00",
-            ..QUIET
+            ..USUAL
         },
         Case {
             record: ESTABLISHED,
@@ -183,7 +181,7 @@ fn parts_of_cache_and_payload() {
             after: "7 0 0 1 0 5 0 0 0 2 4 0",
             actions: "9 0 0 0 0 0 0 0 0 0 0 1 0 0 1 3",
             part: "3*07",
-            ..QUIET
+            ..USUAL
         },
     ]);
 }
@@ -196,7 +194,7 @@ fn case_11_an_ended_token_locks_with_close() {
         event: "11 0 0 0 1 0 1000 1000",
         after: "9 0 0 0 0 2 0 0 0 0 0 0",
         actions: "2 0 0 2 0 0 0 0 0 0 0 0 0 0 0 0",
-        ..QUIET
+        ..USUAL
     }]);
 }
 
@@ -213,13 +211,12 @@ fn case_12_the_furthest_times_are_clamped() {
 }
 
 #[test]
-fn limits() {
-    let seventeen = "7 3 ; 3 7 ; 3 ; 3 7 3 3 3 3 3 3 3 3 3 3 3 3 3 3 3";
+fn payload_limit() {
     let send = |payload| Case {
         record: ESTABLISHED,
         event: "2 0 0 0 0 0 0 0",
         payload,
-        ..QUIET
+        ..USUAL
     };
     check(&[
         Case {
@@ -240,19 +237,31 @@ fn limits() {
             after: ESTABLISHED,
             ..send("4097*01")
         },
+    ]);
+}
+
+#[test]
+fn cache_suite_and_code_limits() {
+    let seventeen = "7 3 ; 3 7 ; 3 ; 3 7 3 3 3 3 3 3 3 3 3 3 3 3 3 3 3";
+    let short_cache = Case {
+        cache: "4095*00",
+        cache_after: "4095*00",
+        ..USUAL
+    };
+    check(&[
         Case {
-            cache: "4095*00",
-            cache_after: "4095*00",
-            ..unchanged(5, FRESH, "0 0 0 0 0 0 0 0")
+            event: "0 0 0 0 0 0 0 0",
+            answer: 5,
+            ..short_cache
         },
         Case {
             lists: seventeen,
             ..unchanged(6, GREETED, HELLO)
         },
         Case {
-            cache: "4095*00",
-            cache_after: "4095*00",
-            ..unchanged(1, FRESH, "24 0 0 0 0 0 0 0")
+            event: "24 0 0 0 0 0 0 0",
+            answer: 1,
+            ..short_cache
         },
     ]);
 }
@@ -295,7 +304,7 @@ fn request_102() {
             event: "21 2 0 0 0 0 0 0",
             after: "5 0 1 0 0 8 8 6 0 0 0 0",
             actions: "3 0 0 1 0 0 0 2 0 0 0 0 0 0 0 0",
-            ..QUIET
+            ..USUAL
         },
         unchanged(7, "5 0 1 0 0 8 8 6 0 0 4 0", "0 0 0 0 0 0 0 0"),
     ]);
@@ -314,7 +323,7 @@ fn request_104() {
             event: "11 0 0 0 1 10 1060 1000",
             after: OPEN,
             actions: "0 1 1 2 1 1 1 0 0 50 0 0 7 3 0 0",
-            ..QUIET
+            ..USUAL
         },
         unchanged(9, GREETED, "11 0 0 0 1 301 1060 1000"),
         unchanged(9, GREETED, "13 0 0 0 1 301 1060 1000"),
