@@ -4,7 +4,7 @@ use crate::baseline;
 use crate::mixes::{Begin, Call};
 use compare::translate;
 use menhotrac::raw::{self, Actions, Connection};
-use model::{Edition, Record, Sheet};
+use model::{numbers, Edition, Record, Sheet};
 use std::hint::black_box;
 
 pub trait Engine {
@@ -84,7 +84,7 @@ impl Engine for Model {
         let (answer, record, sheet) = model::step(Edition::Mended, &self.record, &modelled, cache);
         self.record = record;
         self.sheet = sheet;
-        (translate::answer(answer), self.sheet.message)
+        (numbers::answer(answer), self.sheet.message)
     }
 
     fn connection(&self) -> Connection {

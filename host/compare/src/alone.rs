@@ -6,7 +6,7 @@ use compare::suite_lists::SuiteLists;
 use compare::{tokens, translate};
 use menhotrac::raw;
 use model::random::Random;
-use model::Record;
+use model::{numbers, Record};
 use std::fmt::Debug;
 
 pub fn call(session: &mut Session) -> Checked<()> {
@@ -36,34 +36,20 @@ fn ask_fresh() -> Checked<()> {
     same("the fresh records differ", &(), model, raw::fresh())
 }
 
-/// Seconds that are refused come back as 0.
 fn ask_seconds(random: &mut Random) -> Checked<()> {
     let (expiry, now) = tokens::any_times(random);
     let margin = tokens::margin(random);
-    let model = match model::seconds_left(expiry, now, margin) {
-        Ok(seconds) => (0, seconds),
-        Err(number) => (number, 0),
-    };
+    let model = numbers::seconds(expiry, now, margin);
     let left = raw::seconds_left(expiry, now, margin);
     let product = (left.refusal, left.seconds);
     let given = (("expiry", expiry), ("now", now), ("margin", margin));
     same("the seconds left differ", &given, model, product)
 }
 
-/// A suite that was not found, and both when refused, come back as 0 and 0.
 fn ask_suites(random: &mut Random) -> Checked<()> {
     let suites = SuiteLists::draw(random);
-    let (refusal, verifier, prover) = match model::choose(&suites.lists()) {
-        Ok(found) => (0, found.verifier, found.prover),
-        Err(number) => (number, None, None),
-    };
-    let pair = |suite: Option<u32>| suite.map_or((0, 0), |number| (1, number));
-    let model = (refusal, pair(verifier), pair(prover));
-    let choice = raw::choose_suites(&translate::lists(&suites.lists()));
-    let product = (
-        choice.refusal,
-        (choice.verifier_found, choice.verifier),
-        (choice.prover_found, choice.prover),
-    );
+    let (refusal, chosen) = numbers::choice(&suites.lists());
+    let model = raw::Choice::new(refusal, chosen);
+    let product = raw::choose_suites(&translate::lists(&suites.lists()));
     same("the suites differ", &suites, model, product)
 }

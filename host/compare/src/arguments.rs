@@ -3,7 +3,7 @@
 
 use compare::suite_lists::SuiteLists;
 use menhotrac::raw;
-use model::{carries_token, Call, Edition, Event};
+use model::{numbers, Call, Edition};
 use std::fmt;
 
 #[derive(Clone, Copy)]
@@ -18,18 +18,18 @@ pub struct Arguments<'a> {
 impl Arguments<'_> {
     /// The call as the model takes it; a verdict that is not 1 is taken for no.
     pub fn call(&self) -> Call<'_> {
-        let event = &self.event;
+        let raw::Event {
+            code,
+            tag,
+            timer,
+            bit,
+            verdict,
+            margin,
+            expiry,
+            now,
+        } = self.event;
         Call {
-            event: Event {
-                code: event.code,
-                tag: event.tag,
-                timer: event.timer,
-                bit: event.bit,
-                verdict: event.verdict == 1,
-                margin: event.margin,
-                expiry: event.expiry,
-                now: event.now,
-            },
+            event: numbers::event([code, tag, timer, bit, verdict, margin], [expiry, now]),
             payload: self.payload,
             lists: self.suites.lists(),
         }
@@ -37,7 +37,7 @@ impl Arguments<'_> {
 
     /// The fault that only the interface for C refuses.
     pub fn wrong_verdict(&self) -> bool {
-        carries_token(self.event.code) && self.event.verdict > 1
+        numbers::wrong_verdict(self.event.code, self.event.verdict)
     }
 }
 

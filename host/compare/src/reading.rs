@@ -1,7 +1,8 @@
 //! What a reader makes of bytes, in the archive's numbers.
 
 use menhotrac::raw::{self, SuiteEntries};
-use model::wire::{Fault, Message, Suites};
+use model::numbers;
+use model::wire::{Fault, Message};
 use std::fmt;
 
 /// An answer, and the two lists after it.
@@ -38,47 +39,22 @@ impl Reading {
         lists: [SuiteEntries; 2],
     ) -> Reading {
         let mut reading = Reading::before(lists);
-        match read {
-            Ok(message) => reading.set_message(bytes, message),
-            Err(fault) => reading.message.refusal = fault.number(),
+        let ([refusal, number, bit], sizes) = numbers::message(bytes, read);
+        let [provers, verifiers, place, size] = sizes;
+        reading.message = raw::Message {
+            refusal,
+            number,
+            bit,
+            provers,
+            verifiers,
+            place,
+            size,
+        };
+        if let Ok(message @ Message::Hello { .. }) = read {
+            let entries = message.suites().map(|suites| suites.entries);
+            [reading.provers, reading.verifiers] = entries;
         }
         reading
-    }
-
-    fn set_message(&mut self, bytes: &[u8], read: &Message) {
-        self.message.number = read.number();
-        match *read {
-            Message::Hello {
-                token,
-                provers,
-                verifiers,
-            } => {
-                self.set_part(bytes, token);
-                self.set_lists(&provers, &verifiers);
-            }
-            Message::Dat(part) | Message::RaProver(part) | Message::RaVerifier(part) => {
-                self.set_part(bytes, part);
-            }
-            Message::Data { payload, bit } => {
-                self.set_part(bytes, payload);
-                self.message.bit = bit;
-            }
-            Message::Ack { bit } => self.message.bit = bit,
-            Message::Close | Message::DatExpired | Message::ReRa => {}
-        }
-    }
-
-    /// The place is told by addresses, since an empty part has one too.
-    fn set_part(&mut self, bytes: &[u8], part: &[u8]) {
-        self.message.place = part.as_ptr() as usize - bytes.as_ptr() as usize;
-        self.message.size = part.len();
-    }
-
-    fn set_lists(&mut self, provers: &Suites, verifiers: &Suites) {
-        self.provers = provers.entries;
-        self.verifiers = verifiers.entries;
-        self.message.provers = provers.count;
-        self.message.verifiers = verifiers.count;
     }
 }
 

@@ -1,60 +1,50 @@
-//! The model's values in the archive's numbers.
+//! The model's values as the archive's structs. The model's numbers get the names
+//! that the structs have for them, so that one out of place shows as a difference.
 
-use menhotrac::raw::{self, Actions, Connection, HANDLED, IGNORED};
-use model::{Answer, Lists, Record, Sheet};
+use menhotrac::raw::{self, Actions, Connection};
+use model::{numbers, Lists, Record, Sheet};
 
 pub fn connection(record: &Record) -> Connection {
+    let [state, awaiting_ack, next_send_bit, expected_bit, cached_len, handled, tags @ ..] =
+        numbers::connection(record);
+    let [h, prover, verifier, dat, ra, ack] = tags;
     Connection {
-        state: record.state,
-        awaiting_ack: record.ack_flag,
-        next_send_bit: record.next_send_bit,
-        expected_bit: record.expected_bit,
-        cached_len: record.cached_len,
-        handled: record.number,
-        h: record.h,
-        prover: record.prover,
-        verifier: record.verifier,
-        dat: record.dat,
-        ra: record.ra,
-        ack: record.ack,
+        state,
+        awaiting_ack,
+        next_send_bit,
+        expected_bit,
+        cached_len,
+        handled,
+        h,
+        prover,
+        verifier,
+        dat,
+        ra,
+        ack,
     }
 }
 
 pub fn actions(sheet: &Sheet) -> Actions {
+    let [message, prover, verifier, h, hp, hv, dat, ra, ack, values @ ..] = numbers::actions(sheet);
+    let [dat_seconds, bit, deliver, verifier_suite, prover_suite, payload_slice, payload_len] =
+        values;
     Actions {
-        message: sheet.message,
-        prover: sheet.prover,
-        verifier: sheet.verifier,
-        h: sheet.h,
-        hp: sheet.hp,
-        hv: sheet.hv,
-        dat: sheet.dat,
-        ra: sheet.ra,
-        ack: sheet.ack,
-        dat_seconds: sheet.dat_seconds,
-        bit: sheet.bit,
-        deliver: sheet.hand_up.into(),
-        verifier_suite: sheet.verifier_suite,
-        prover_suite: sheet.prover_suite,
-        payload_slice: sheet.slice,
-        payload_len: sheet.len,
-    }
-}
-
-pub fn answer(answer: Answer) -> u32 {
-    match answer {
-        Answer::Handled => HANDLED,
-        Answer::Ignored => IGNORED,
-        Answer::Refused(number) => number,
-    }
-}
-
-/// The answer with this number.
-pub fn answer_of(number: u32) -> Answer {
-    match number {
-        HANDLED => Answer::Handled,
-        IGNORED => Answer::Ignored,
-        _ => Answer::Refused(number),
+        message,
+        prover,
+        verifier,
+        h,
+        hp,
+        hv,
+        dat,
+        ra,
+        ack,
+        dat_seconds,
+        bit,
+        deliver,
+        verifier_suite,
+        prover_suite,
+        payload_slice,
+        payload_len,
     }
 }
 

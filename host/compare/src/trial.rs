@@ -5,8 +5,8 @@ use crate::difference::{Checked, Difference};
 use crate::translate;
 use compare::caches::Caches;
 use compare::outcome::{part, Outcome, RUBBISH};
-use menhotrac::raw::{self, Actions, HANDLED, IGNORED, WRONG_VERDICT};
-use model::{code, live, refusal, step, Record, Sheet};
+use menhotrac::raw::{self, Actions, HANDLED, IGNORED};
+use model::{code, live, numbers, Record, Sheet};
 
 /// The two sides.
 pub struct Sides {
@@ -54,19 +54,12 @@ impl Sides {
         Err(self.difference(what, record, arguments, &model, &product))
     }
 
-    /// The model's record after the call, its sheet and its outcome; what only
-    /// the interface for C refuses comes after all of the paper's refusals.
+    /// The model's record after the call, its sheet and its outcome.
     fn ask_model(&mut self, record: &Record, arguments: &Arguments) -> (Record, Sheet, Outcome) {
-        let (call, edition) = (arguments.call(), arguments.edition);
-        let refused = refusal(edition, record, &call, arguments.cache_len).is_some();
-        let interface_refuses = arguments.wrong_verdict() && !refused;
-        let (answer, after, sheet) = if interface_refuses {
-            (WRONG_VERDICT, *record, Sheet::default())
-        } else {
-            let cache = &mut self.caches.model[..arguments.cache_len];
-            let (answer, after, sheet) = step(edition, record, &call, cache);
-            (translate::answer(answer), after, sheet)
-        };
+        let (call, verdict) = (arguments.call(), arguments.event.verdict);
+        let cache = &mut self.caches.model[..arguments.cache_len];
+        let (answer, after, sheet) =
+            numbers::step(arguments.edition, record, &call, verdict, cache);
         let outcome = Outcome {
             answer,
             connection: translate::connection(&after),

@@ -5,11 +5,10 @@ use crate::arguments::Arguments;
 use crate::difference::{Checked, Difference};
 use crate::draw;
 use crate::session::Session;
-use crate::translate;
 use crate::trial::Sides;
 use compare::outcome::{part, Outcome};
 use menhotrac::raw::{self, HANDLED, WRONG_VERDICT};
-use model::{code, message, Ledger, Notes, Predicted, Record, Running, Sheet};
+use model::{code, message, numbers, Ledger, Notes, Predicted, Record, Running, Sheet};
 
 /// Events that can only lock. They are drawn rarely, so that runs get deep.
 const LOCKING: [u32; 6] = [
@@ -110,7 +109,7 @@ impl Walk {
         let actions = &outcome.actions;
         let bytes = part(actions, arguments.payload, self.sides.cache(arguments)).unwrap_or(&[]);
         let came = Predicted {
-            answer: translate::answer_of(outcome.answer),
+            answer: numbers::answer_of(outcome.answer),
             state: outcome.connection.state,
             number: outcome.connection.handled,
             data: (actions.message == message::DATA).then_some((actions.bit, bytes)),
@@ -142,7 +141,7 @@ impl Walk {
         after: &Record,
         sheet: &Sheet,
     ) -> Checked<()> {
-        let answer = translate::answer_of(outcome.answer);
+        let answer = numbers::answer_of(outcome.answer);
         let obeyed = self.ledger.hear(&arguments.call().event, answer, sheet);
         let (running, recorded) = (self.ledger.running, Running::recorded(after));
         let what = if !obeyed {

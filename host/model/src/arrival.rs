@@ -21,35 +21,26 @@ pub fn call_of<'a>(message: &'a Message<'a>, given: &Given<'a>) -> Call<'a> {
     let mut call = Call {
         event: Event {
             code: code_of(message),
+            bit: message.bit(),
             verdict: given.verdict,
             margin: given.margin,
             expiry: given.expiry,
             now: given.now,
             ..Event::default()
         },
-        payload: &[],
+        payload: message.part().unwrap_or(&[]),
         lists: Lists {
             our_verifiers: given.our_verifiers,
             our_provers: given.our_provers,
             ..Lists::default()
         },
     };
-    match message {
-        Message::Hello {
-            token,
-            provers,
-            verifiers,
-        } => {
-            call.payload = token;
-            call.lists.peer_provers = provers.list();
-            call.lists.peer_verifiers = verifiers.list();
-        }
-        Message::Dat(part) | Message::RaProver(part) | Message::RaVerifier(part) => {
-            call.payload = part;
-        }
-        Message::Data { payload, bit } => (call.payload, call.event.bit) = (payload, *bit),
-        Message::Ack { bit } => call.event.bit = *bit,
-        Message::Close | Message::DatExpired | Message::ReRa => {}
+    if let Message::Hello {
+        provers, verifiers, ..
+    } = message
+    {
+        call.lists.peer_provers = provers.list();
+        call.lists.peer_verifiers = verifiers.list();
     }
     call
 }

@@ -10,6 +10,9 @@
 //! [`wire`] reads the peer's messages from bytes. It shares no line with the
 //! library either, but is written to be quick, as the benchmark's other side.
 //! [`arrival`] makes calls of what was read.
+//!
+//! [`numbers`] says all of this in the numbers of the interface for C. The program
+//! `model-rows` prints them for the rows of `crates/cases/stdin`.
 
 #![forbid(unsafe_code)]
 
@@ -18,6 +21,7 @@ mod call;
 mod edition;
 mod ledger;
 mod notes;
+pub mod numbers;
 mod orders;
 pub mod random;
 mod record;

@@ -29,7 +29,7 @@ pub enum Message<'a> {
     },
 }
 
-impl Message<'_> {
+impl<'a> Message<'a> {
     /// The number of the message, which is that of its outer field.
     pub fn number(&self) -> u32 {
         match self {
@@ -42,6 +42,34 @@ impl Message<'_> {
             Message::RaVerifier(_) => 7,
             Message::Data { .. } => 8,
             Message::Ack { .. } => 9,
+        }
+    }
+
+    /// The token or payload, of a message that can have one.
+    pub fn part(&self) -> Option<&'a [u8]> {
+        match *self {
+            Message::Hello { token, .. } => Some(token),
+            Message::Dat(part) | Message::RaProver(part) | Message::RaVerifier(part) => Some(part),
+            Message::Data { payload, .. } => Some(payload),
+            Message::Close | Message::DatExpired | Message::ReRa | Message::Ack { .. } => None,
+        }
+    }
+
+    /// The bit of a DATA or ACK, else 0.
+    pub fn bit(&self) -> u32 {
+        match *self {
+            Message::Data { bit, .. } | Message::Ack { bit } => bit,
+            _ => 0,
+        }
+    }
+
+    /// The suites of a HELLO, the provers' and the verifiers', else none.
+    pub fn suites(&self) -> [Suites; 2] {
+        match *self {
+            Message::Hello {
+                provers, verifiers, ..
+            } => [provers, verifiers],
+            _ => [Suites::default(); 2],
         }
     }
 }

@@ -7,7 +7,7 @@ use menhotrac::raw::{OurLists, Token};
 use model::arrival::{self, Given};
 use model::random::Random;
 use model::wire::Message;
-use model::{carries_token, fault, Call, Edition, Record};
+use model::{fault, numbers, Call, Edition, Record};
 use std::fmt;
 
 pub struct Arrival<'a> {
@@ -74,7 +74,7 @@ impl<'a> Arrival<'a> {
 
     /// The fault that only the interface for C refuses.
     pub fn wrong_verdict(&self, call: &Call) -> bool {
-        carries_token(call.event.code) && self.token.verdict > 1
+        numbers::wrong_verdict(call.event.code, self.token.verdict)
     }
 }
 

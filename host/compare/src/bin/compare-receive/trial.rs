@@ -6,9 +6,9 @@ use compare::difference::{Checked, Difference};
 use compare::outcome::{part, Outcome, RUBBISH};
 use compare::reading::Reading;
 use compare::translate;
-use menhotrac::raw::{self, Actions, HANDLED, WRONG_VERDICT};
+use menhotrac::raw::{self, Actions, HANDLED};
 use model::wire::{Fault, Message};
-use model::{refusal, step, Call, Record, Sheet};
+use model::{numbers, Call, Record, Sheet};
 
 /// What the plain reader made of the bytes.
 pub type Read<'a> = Result<Message<'a>, Fault>;
@@ -84,17 +84,10 @@ impl Sides {
         (sheet, Receipt { outcome, place })
     }
 
-    /// What only the interface for C refuses comes after all of the paper's
-    /// refusals.
     fn step_model(&mut self, arrival: &Arrival, call: &Call) -> (u32, Record, Sheet) {
-        let (record, edition) = (&arrival.record, arrival.edition);
-        let refused = refusal(edition, record, call, arrival.cache_len).is_some();
-        if arrival.wrong_verdict(call) && !refused {
-            return (WRONG_VERDICT, *record, Sheet::default());
-        }
+        let (record, verdict) = (&arrival.record, arrival.token.verdict);
         let cache = &mut self.caches.model[..arrival.cache_len];
-        let (answer, after, sheet) = step(edition, record, call, cache);
-        (translate::answer(answer), after, sheet)
+        numbers::step(arrival.edition, record, call, verdict, cache)
     }
 
     /// The slots hold rubbish before, to see that each is written.
