@@ -1,13 +1,7 @@
 // The choice of attestation suites, made once when a connection opens.
 ghost use mathlib.Core.Path.{_≡_};
-ghost use Rattle.suites.specs.Choice.{anyTooLong, choice};
-ghost use Rattle.suites.specs.Numbers.{answerOf};
-
-mod search;
-
-use crate::search::first_common;
-use crate::search::same_first;
-use crate::search::several;
+ghost use Rattle.suites.specs.Choice.{anyTooLong, firstFound, choice};
+ghost use Rattle.suites.specs.Numbers.{foundOf, answerOf};
 
 const MAX_ENTRIES: usize = 16;
 
@@ -24,8 +18,7 @@ pub enum Choice {
 }
 
 // Chooses the suite that our verifier and the peer's prover run, and the suite that the peer's verifier and our prover
-// run. In each pair the verifier's order decides. The first entries are compared before the search, so that no call is
-// made where both ends prefer the same suite or have one each.
+// run. In each pair the verifier's order decides.
 pub fn choose(
     our_verifiers: &[u32],
     peer_provers: &[u32],
@@ -37,25 +30,10 @@ pub fn choose(
     if any_too_long(our_verifiers, peer_provers, peer_verifiers, our_provers) {
         return Choice::TooLong;
     }
-    let mut verifier = Common::Nothing;
-    if same_first(our_verifiers, peer_provers) {
-        verifier = Common::Suite(our_verifiers[0]);
-    } else if several(our_verifiers, peer_provers) {
-        let place = first_common(our_verifiers, peer_provers);
-        if place < our_verifiers.len() {
-            verifier = Common::Suite(our_verifiers[place]);
-        }
+    Choice::Chosen {
+        verifier: first_common(our_verifiers, peer_provers),
+        prover: first_common(peer_verifiers, our_provers),
     }
-    let mut prover = Common::Nothing;
-    if same_first(peer_verifiers, our_provers) {
-        prover = Common::Suite(peer_verifiers[0]);
-    } else if several(peer_verifiers, our_provers) {
-        let place = first_common(peer_verifiers, our_provers);
-        if place < peer_verifiers.len() {
-            prover = Common::Suite(peer_verifiers[place]);
-        }
-    }
-    Choice::Chosen { verifier, prover }
 }
 
 // Whether a list has more than 16 entries, which is the fault of refusal 6.
@@ -71,4 +49,39 @@ pub fn any_too_long(
         | (peer_provers.len() > MAX_ENTRIES)
         | (peer_verifiers.len() > MAX_ENTRIES)
         | (our_provers.len() > MAX_ENTRIES)
+}
+
+// The first entry of `verifiers` found anywhere in `provers`. While eight provers are left, a turn takes eight of them and
+// compares them without a branch between, of which the compiler makes vector instructions where it can.
+fn first_common(verifiers: &[u32], provers: &[u32]) -> Common
+    ensures { λ r. ⌜ foundOf r ≡ firstFound (now (verifiers .entry)) (now (provers .entry)) ⌝ }
+{
+    let mut common = Common::Nothing;
+    'search: for i in 0..verifiers.len() {
+        let suite = verifiers[i];
+        let mut rest = provers;
+        while rest.len() >= 8 {
+            if (suite == rest[0])
+                | (suite == rest[1])
+                | (suite == rest[2])
+                | (suite == rest[3])
+                | (suite == rest[4])
+                | (suite == rest[5])
+                | (suite == rest[6])
+                | (suite == rest[7])
+            {
+                common = Common::Suite(suite);
+                break 'search;
+            }
+            rest = &rest[8..];
+        }
+        while rest.len() > 0 {
+            if suite == rest[0] {
+                common = Common::Suite(suite);
+                break 'search;
+            }
+            rest = &rest[1..];
+        }
+    }
+    common
 }
