@@ -1,4 +1,4 @@
--- What the rest of a list finds, from one entry to the next, and past a group of entries.
+-- What the rest of a list finds: from one entry to the next, and from one group of entries to the next.
 use mathlib.Core.Path.{_≡_, refl, sym, ap, _∙_}
 use mathlib.Core.Bool.{Bool, true, false, cond, _||_, or-assoc}
 use mathlib.Core.List.{List}
@@ -6,7 +6,7 @@ use Prim.Native.Nat.{ℕ, zero, suc, _+_, _-_, _<_, _≤_}
 use native.Mathlib.Numerals.{add-one}
 use native.Mathlib.Omega.{arith}
 use lib.ListN.{length, getD, take, drop, length-drop, drop-of-length-le}
-use lib.Seq.{drop-cons, take-all}
+use lib.Seq.{drop-cons, drop-drop, take-all}
 use Rattle.suites.specs.Answer.{Found, foundSuite, notFound}
 use Rattle.suites.specs.Choice.{find}
 
@@ -14,32 +14,45 @@ cond-found : (b : Bool) (suite : ℕ) (f : Found) → cond b (foundSuite suite) 
 cond-found true suite f = refl
 cond-found false suite f = refl
 
-module _ (passes : ℕ → Bool) (list : List ℕ) where
-  pub here : (i : ℕ) → i < length list → passes (getD list i 0) ≡ true → find passes (drop i list) ≡ foundSuite (getD list i 0)
-  unfolding find
-  here i h t = rw (drop-cons list i 0 h, t)
+-- A list from a place on, as the code takes it.
+abbrev pub from : List ℕ → ℕ → List ℕ
+from list place = take (length list - place) (drop place list)
 
-  pub later : (i : ℕ) → i < length list → passes (getD list i 0) ≡ false → find passes (drop i list) ≡ find passes (drop (i + 1) list)
-  unfolding find
-  later i h t = rw (add-one, drop-cons list i 0 h, t)
+from-drop : (list : List ℕ) (place : ℕ) → from list place ≡ drop place list
+from-drop list place = take-all (length list - place) (drop place list) (omega (arith, length-drop place list))
 
-  pub at-end : (i : ℕ) → length list ≤ i → find passes (drop i list) ≡ notFound
+module _ (passes : ℕ → Bool) where
+  pub here : (list : List ℕ) (i : ℕ) → i < length list → passes (getD list i 0) ≡ true → find passes (drop i list) ≡ foundSuite (getD list i 0)
   unfolding find
-  at-end i h = rw (drop-of-length-le list {i = i} h)
+  here list i h t = rw (drop-cons list i 0 h, t)
+
+  pub later : (list : List ℕ) (i : ℕ) → i < length list → passes (getD list i 0) ≡ false → find passes (drop i list) ≡ find passes (drop (i + 1) list)
+  unfolding find
+  later list i h t = rw (add-one, drop-cons list i 0 h, t)
+
+  pub at-end : (list : List ℕ) (i : ℕ) → length list ≤ i → find passes (drop i list) ≡ notFound
+  unfolding find
+  at-end list i h = rw (drop-of-length-le list {i = i} h)
 
   -- Whether one of the first `n` entries passes, as the search tests them.
-  abbrev pub anyOf : ℕ → Bool
-  anyOf zero = false
-  anyOf (suc n) = anyOf n || passes (getD list n 0)
+  abbrev pub anyOf : List ℕ → ℕ → Bool
+  anyOf list zero = false
+  anyOf list (suc n) = anyOf list n || passes (getD list n 0)
 
-  group : (n : ℕ) → n ≤ length list → find passes list .found ≡ anyOf n || find passes (drop n list) .found
+  group : (list : List ℕ) (n : ℕ) → n ≤ length list → find passes list .found ≡ anyOf list n || find passes (drop n list) .found
   unfolding find
-  group zero h = refl
-  group (suc n) h = group n (omega arith) ∙ rw (drop-cons list n 0 (omega arith), cond-found, or-assoc)
+  group list zero h = refl
+  group list (suc n) h = group list n (omega arith) ∙ rw (drop-cons list n 0 (omega arith), cond-found, or-assoc)
 
-  pub among : (n : ℕ) → n ≤ length list → anyOf n ≡ true → find passes list .found ≡ true
-  among n h t = rw (group n h, t)
+  pub last : (list : List ℕ) (place next : ℕ) → place ≡ next → find passes (drop place list) .found ≡ find passes (from list next) .found
+  last list place next e = rw (from-drop, e)
 
-  -- What is left behind the first `n` entries is written as the code takes it.
-  pub past : (n : ℕ) → n ≤ length list → anyOf n ≡ false → find passes list .found ≡ find passes (take (length list - n) (drop n list)) .found
-  past n h t = rw (group n h, t, take-all (length list - n) (drop n list) (omega (arith, length-drop n list)))
+  module _ (list : List ℕ) (place n : ℕ) (h : place + n ≤ length list) where
+    split : find passes (drop place list) .found ≡ anyOf (from list place) n || find passes (drop (place + n) list) .found
+    split = rw (from-drop, ← drop-drop n place list) (group (drop place list) n (omega (arith, length-drop place list)))
+
+    pub among : anyOf (from list place) n ≡ true → find passes (drop place list) .found ≡ true
+    among t = rw (split, t)
+
+    pub past : (next : ℕ) → place + n ≡ next → anyOf (from list place) n ≡ false → find passes (drop place list) .found ≡ find passes (drop next list) .found
+    past next e t = rw (split, t, e)

@@ -1,6 +1,8 @@
 // The choice of attestation suites, made once when a connection opens.
 ghost use mathlib.Core.Path.{_≡_};
-ghost use Rattle.suites.specs.Choice.{anyTooLong, firstFound, choice};
+ghost use mathlib.Core.Bool.{true};
+ghost use lib.ListN.{drop};
+ghost use Rattle.suites.specs.Choice.{find, firstFound, anyTooLong, choice};
 ghost use Rattle.suites.specs.Numbers.{foundOf, answerOf};
 
 const MAX_ENTRIES: usize = 16;
@@ -31,8 +33,8 @@ pub fn choose(
         return Choice::TooLong;
     }
     Choice::Chosen {
-        verifier: first_common(our_verifiers, peer_provers),
-        prover: first_common(peer_verifiers, our_provers),
+        verifier: suite_at(our_verifiers, first_common(our_verifiers, peer_provers)),
+        prover: suite_at(peer_verifiers, first_common(peer_verifiers, our_provers)),
     }
 }
 
@@ -51,37 +53,48 @@ pub fn any_too_long(
         | (our_provers.len() > MAX_ENTRIES)
 }
 
-// The first entry of `verifiers` found anywhere in `provers`. While eight provers are left, a turn takes eight of them and
-// compares them without a branch between, of which the compiler makes vector instructions where it can.
-fn first_common(verifiers: &[u32], provers: &[u32]) -> Common
-    ensures { λ r. ⌜ foundOf r ≡ firstFound (now (verifiers .entry)) (now (provers .entry)) ⌝ }
+// The suite at a place of a list, if the list is so long.
+fn suite_at(list: &[u32], place: usize) -> Common
+    ensures { λ r. ⌜ foundOf r ≡ find (λ _. true) (drop place (now (list .entry))) ⌝ }
 {
-    let mut common = Common::Nothing;
-    'search: for i in 0..verifiers.len() {
-        let suite = verifiers[i];
-        let mut rest = provers;
-        while rest.len() >= 8 {
-            if (suite == rest[0])
-                | (suite == rest[1])
-                | (suite == rest[2])
-                | (suite == rest[3])
-                | (suite == rest[4])
-                | (suite == rest[5])
-                | (suite == rest[6])
-                | (suite == rest[7])
-            {
-                common = Common::Suite(suite);
-                break 'search;
-            }
-            rest = &rest[8..];
-        }
-        while rest.len() > 0 {
-            if suite == rest[0] {
-                common = Common::Suite(suite);
-                break 'search;
-            }
-            rest = &rest[1..];
-        }
+    if place < list.len() {
+        Common::Suite(list[place])
+    } else {
+        Common::Nothing
     }
-    common
+}
+
+// The place of the first entry of `verifiers` found anywhere in `provers`, or the number of verifiers if none is found.
+// Provers are compared eight a turn while eight are left, without a branch between them, of which the compiler makes
+// vector instructions where it can.
+fn first_common(verifiers: &[u32], provers: &[u32]) -> usize
+    ensures { λ r. ⌜ find (λ _. true) (drop r (now (verifiers .entry))) ≡ firstFound (now (verifiers .entry)) (now (provers .entry)) ⌝ }
+{
+    let groups = provers.len() / 8;
+    let rest = &provers[groups * 8..];
+    let mut i = 0;
+    'search: while i < verifiers.len() {
+        let suite = verifiers[i];
+        for group in 0..groups {
+            let eight = &provers[group * 8..];
+            if (suite == eight[0])
+                | (suite == eight[1])
+                | (suite == eight[2])
+                | (suite == eight[3])
+                | (suite == eight[4])
+                | (suite == eight[5])
+                | (suite == eight[6])
+                | (suite == eight[7])
+            {
+                break 'search;
+            }
+        }
+        for j in 0..rest.len() {
+            if suite == rest[j] {
+                break 'search;
+            }
+        }
+        i += 1;
+    }
+    i
 }
