@@ -1,12 +1,12 @@
--- What the rest of a list finds: from one entry to the next, and from one group of entries to the next.
+-- What a part of a list finds: the rest from one entry to the next, the first entries, and both parts of a list.
 use mathlib.Core.Path.{_≡_, refl, sym, ap, _∙_}
-use mathlib.Core.Bool.{Bool, true, false, cond, _||_, or-assoc}
-use mathlib.Core.List.{List}
+use mathlib.Core.Bool.{Bool, true, false, cond, _||_, or-assoc, or-false}
+use mathlib.Core.List.{List, [], _∷_, _++_}
 use Prim.Native.Nat.{ℕ, zero, suc, _+_, _-_, _<_, _≤_}
 use native.Mathlib.Numerals.{add-one}
 use native.Mathlib.Omega.{arith}
-use lib.ListN.{length, getD, take, drop, length-drop, drop-of-length-le}
-use lib.Seq.{drop-cons, drop-drop, take-all}
+use lib.ListN.{length, getD, take, drop, take-append-drop, length-drop, drop-of-length-le}
+use lib.Seq.{drop-cons, drop-drop, take-all, take-suc}
 use Rattle.suites.specs.Answer.{Found, foundSuite, notFound}
 use Rattle.suites.specs.Choice.{find}
 
@@ -34,25 +34,27 @@ module _ (passes : ℕ → Bool) where
   unfolding find
   at-end list i h = rw (drop-of-length-le list {i = i} h)
 
+  append : (a b : List ℕ) → find passes (a ++ b) .found ≡ find passes a .found || find passes b .found
+  unfolding find
+  append [] b = refl
+  append (entry ∷ a) b = simp (cond-found, append a b, or-assoc)
+
   -- Whether one of the first `n` entries passes, as the search tests them.
-  abbrev pub anyOf : List ℕ → ℕ → Bool
+  abbrev anyOf : List ℕ → ℕ → Bool
   anyOf list zero = false
   anyOf list (suc n) = anyOf list n || passes (getD list n 0)
 
-  group : (list : List ℕ) (n : ℕ) → n ≤ length list → find passes list .found ≡ anyOf list n || find passes (drop n list) .found
+  pub any-found : (list : List ℕ) (n : ℕ) → n ≤ length list → anyOf list n ≡ find passes (take n list) .found
   unfolding find
-  group list zero h = refl
-  group list (suc n) h = group list n (omega arith) ∙ rw (drop-cons list n 0 (omega arith), cond-found, or-assoc)
+  any-found list zero h = refl
+  any-found list (suc n) h = rw (take-suc list n 0 (omega arith), append, cond-found, or-false, any-found list n (omega arith))
 
-  pub last : (list : List ℕ) (place next : ℕ) → place ≡ next → find passes (drop place list) .found ≡ find passes (from list next) .found
-  last list place next e = rw (from-drop, e)
+  module _ (list : List ℕ) (place n : ℕ) where
+    split : find passes (drop place list) .found ≡ find passes (take n (from list place)) .found || find passes (drop (place + n) list) .found
+    split = rw (from-drop, ← drop-drop n place list, ← append, take-append-drop)
 
-  module _ (list : List ℕ) (place n : ℕ) (h : place + n ≤ length list) where
-    split : find passes (drop place list) .found ≡ anyOf (from list place) n || find passes (drop (place + n) list) .found
-    split = rw (from-drop, ← drop-drop n place list) (group (drop place list) n (omega (arith, length-drop place list)))
-
-    pub among : anyOf (from list place) n ≡ true → find passes (drop place list) .found ≡ true
+    pub among : find passes (take n (from list place)) .found ≡ true → find passes (drop place list) .found ≡ true
     among t = rw (split, t)
 
-    pub past : (next : ℕ) → place + n ≡ next → anyOf (from list place) n ≡ false → find passes (drop place list) .found ≡ find passes (drop next list) .found
+    pub past : (next : ℕ) → place + n ≡ next → find passes (take n (from list place)) .found ≡ false → find passes (drop place list) .found ≡ find passes (drop next list) .found
     past next e t = rw (split, t, e)

@@ -1,8 +1,9 @@
 // The choice of attestation suites, made once when a connection opens.
 ghost use mathlib.Core.Path.{_≡_};
 ghost use mathlib.Core.Bool.{true};
-ghost use lib.ListN.{drop};
-ghost use Rattle.suites.specs.Choice.{find, firstFound, anyTooLong, choice};
+ghost use Prim.Native.Nat.{_≤_};
+ghost use lib.ListN.{length, take, drop};
+ghost use Rattle.suites.specs.Choice.{find, foundIn, firstFound, anyTooLong, choice};
 ghost use Rattle.suites.specs.Numbers.{foundOf, answerOf};
 
 const MAX_ENTRIES: usize = 16;
@@ -65,36 +66,41 @@ fn suite_at(list: &[u32], place: usize) -> Common
 }
 
 // The place of the first entry of `verifiers` found anywhere in `provers`, or the number of verifiers if none is found.
-// Provers are compared eight a turn while eight are left, without a branch between them, of which the compiler makes
-// vector instructions where it can.
+// Provers are taken in groups of eight, and those that are left one by one.
 fn first_common(verifiers: &[u32], provers: &[u32]) -> usize
     ensures { λ r. ⌜ find (λ _. true) (drop r (now (verifiers .entry))) ≡ firstFound (now (verifiers .entry)) (now (provers .entry)) ⌝ }
 {
     let groups = provers.len() / 8;
-    let rest = &provers[groups * 8..];
     let mut i = 0;
     'search: while i < verifiers.len() {
         let suite = verifiers[i];
         for group in 0..groups {
-            let eight = &provers[group * 8..];
-            if (suite == eight[0])
-                | (suite == eight[1])
-                | (suite == eight[2])
-                | (suite == eight[3])
-                | (suite == eight[4])
-                | (suite == eight[5])
-                | (suite == eight[6])
-                | (suite == eight[7])
-            {
+            if in_first_eight(suite, &provers[group * 8..]) {
                 break 'search;
             }
         }
-        for j in 0..rest.len() {
-            if suite == rest[j] {
+        for j in groups * 8..provers.len() {
+            if suite == provers[j] {
                 break 'search;
             }
         }
         i += 1;
     }
     i
+}
+
+// Whether a suite is among the first eight entries of a list. They are compared without a branch between them, of which
+// the compiler makes vector instructions where it can.
+fn in_first_eight(suite: u32, list: &[u32]) -> bool
+    requires { ⌜ 8 ≤ length (now list) ⌝ }
+    ensures { λ r. ⌜ r ≡ foundIn (take 8 (now (list .entry))) suite ⌝ }
+{
+    (suite == list[0])
+        | (suite == list[1])
+        | (suite == list[2])
+        | (suite == list[3])
+        | (suite == list[4])
+        | (suite == list[5])
+        | (suite == list[6])
+        | (suite == list[7])
 }

@@ -9,7 +9,7 @@ use borrow.Author.Tests.{eq-eqb, ne-eqb}
 use lib.ListN.{length, getD, drop}
 use Rattle.suites.specs.Answer.{Found}
 use Rattle.suites.specs.Choice.{find, firstFound, foundIn}
-use Rattle.suites.proofs.Found.{here, later, at-end, last, among, past}
+use Rattle.suites.proofs.Found.{here, later, at-end, among, past}
 use Rattle.suites.proofs.first_common.Statement.{statement}
 use Rattle.suites.proofs.first_common.Tie as tie
 
@@ -17,22 +17,22 @@ abbrev isFound : Found → Bool
 isFound f = f .found
 
 abbrev Inv-loop : tie.InvT-loop
-Inv-loop verifiers provers groups rest i suite group₀ group = (foundIn provers suite ≡ foundIn (drop (group * 8) provers) suite) × (group ≤ groups)
+Inv-loop verifiers provers groups i suite group₀ group = (foundIn provers suite ≡ foundIn (drop (group * 8) provers) suite) × (group ≤ groups)
 
 abbrev μ-loop : tie.MeasureT-loop
-μ-loop verifiers provers groups rest i suite group₀ group = groups - group
+μ-loop verifiers provers groups i suite group₀ group = groups - group
 
 abbrev Inv-loop2 : tie.InvT-loop2
-Inv-loop2 verifiers provers groups rest i suite j₀ j-end j = foundIn provers suite ≡ foundIn (drop j rest) suite
+Inv-loop2 verifiers provers groups i suite j₀ j-end j = foundIn provers suite ≡ foundIn (drop j provers) suite
 
 abbrev μ-loop2 : tie.MeasureT-loop2
-μ-loop2 verifiers provers groups rest i suite j₀ j-end j = j-end - j
+μ-loop2 verifiers provers groups i suite j₀ j-end j = j-end - j
 
 abbrev Inv-search : tie.InvT-search
-Inv-search verifiers provers groups rest i₀ i = firstFound verifiers provers ≡ firstFound (drop i verifiers) provers
+Inv-search verifiers provers groups i₀ i = firstFound verifiers provers ≡ firstFound (drop i verifiers) provers
 
 abbrev μ-search : tie.MeasureT-search
-μ-search verifiers provers groups rest i₀ i = length verifiers - i
+μ-search verifiers provers groups i₀ i = length verifiers - i
 
 -- The search is left at `i`, where a verifier is found.
 stopped :
@@ -45,15 +45,15 @@ stopped verifiers provers i h e t = here _ verifiers i h refl ∙ sym (e ∙ her
 
 loop-again : tie.Need-loop-again Inv-loop μ-loop Inv-loop2 μ-loop2 Inv-search μ-search
 loop-again c =
-    let l = c .before .before .before .before .before .before .before .before .before .before .before .loop in
-    let provers = c .before .before .before .before .before .before .before .before .before .before .before .before .before .before .before .before .args .provers .now in
-    (l .inv .0 ∙ past _ provers (l .group * 8) 8 (search needs) ((l .group + 1) * 8) (omega arith) (c .if1 .left), search needs)
+    let l = c .before .before .before .before .loop in
+    let missed = sym (c .before .in-first-eight .ensures) ∙ c .if1 .left in
+    (l .inv .0 ∙ past _ _ (l .group * 8) 8 ((l .group + 1) * 8) (omega arith) missed, search needs)
 
 loop2-holds : tie.Need-loop2-holds Inv-loop μ-loop Inv-loop2 μ-loop2 Inv-search μ-search
 loop2-holds c =
     let l = c .before .loop in
-    let provers = c .before .before .before .before .before .before .args .provers .now in
-    l .inv .0 ∙ last _ provers (l .group * 8) (length provers / 8 * 8) (omega arith)
+    let last : l .group ≡ length (c .before .before .before .before .before .before .before .args .provers .now) / 8 = omega arith in
+    rw (← last) (l .inv .0)
 
 loop2-again : tie.Need-loop2-again Inv-loop μ-loop Inv-loop2 μ-loop2 Inv-search μ-search
 loop2-again c =
@@ -73,9 +73,9 @@ returns c =
 
 returns-2 : tie.Need-returns-2 Inv-loop μ-loop Inv-loop2 μ-loop2 Inv-search μ-search
 returns-2 c =
-    let l = c .before .before .before .before .before .before .before .before .before .before .before .loop in
-    let o = c .before .before .before .before .before .before .before .before .before .before .before .before .before .before .search in
-    stopped _ _ (o .i) (search needs) (o .inv) (l .inv .0 ∙ among _ (c .before .before .before .before .before .before .before .before .before .before .before .before .before .before .before .before .args .provers .now) (l .group * 8) 8 (search needs) (c .if1 .taken))
+    let l = c .before .before .before .before .loop in
+    let o = c .before .before .before .before .before .before .before .search in
+    stopped _ _ (o .i) (search needs) (o .inv) (l .inv .0 ∙ among _ _ (l .group * 8) 8 (sym (c .before .in-first-eight .ensures) ∙ c .if1 .taken))
 
 returns-3 : tie.Need-returns-3 Inv-loop μ-loop Inv-loop2 μ-loop2 Inv-search μ-search
 returns-3 c =
@@ -102,22 +102,11 @@ first-common-spec =
     (λ c. search needs)
     (λ c. search needs)
     (λ c. search needs)
-    (λ c. search needs)
-    (λ c. search needs)
-    (λ c. search needs)
-    (λ c. search needs)
-    (λ c. search needs)
-    (λ c. search needs)
-    (λ c. search needs)
-    (λ c. search needs)
-    (λ c. search needs)
-    (λ c. search needs)
-    (λ c. search needs)
-    (λ c. search needs)
-    (λ c. search needs)
+    (λ c κs. search needs)
     (λ c. search needs)
     (λ c. search needs)
     loop-again
+    (λ c. search needs)
     loop2-holds
     (λ c. search needs)
     (λ c. search needs)
