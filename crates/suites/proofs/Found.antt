@@ -1,5 +1,5 @@
--- What a part of a list finds: the rest from one entry to the next, the first entries, and both parts of a list.
-use mathlib.Core.Path.{_≡_, refl, sym, ap, _∙_}
+-- What a part of a list finds: the rest from one entry to the next, a group of entries, and the rest behind a group.
+use mathlib.Core.Path.{_≡_, refl}
 use mathlib.Core.Bool.{Bool, true, false, cond, _||_, or-assoc, or-false}
 use mathlib.Core.List.{List, [], _∷_, _++_}
 use Prim.Native.Nat.{ℕ, zero, suc, _+_, _-_, _<_, _≤_}
@@ -39,7 +39,7 @@ module _ (passes : ℕ → Bool) where
   append [] b = refl
   append (entry ∷ a) b = simp (cond-found, append a b, or-assoc)
 
-  -- Whether one of the first `n` entries passes, as the search tests them.
+  -- Whether one of the first `n` entries passes, as the code tests them.
   abbrev anyOf : List ℕ → ℕ → Bool
   anyOf list zero = false
   anyOf list (suc n) = anyOf list n || passes (getD list n 0)
@@ -48,6 +48,9 @@ module _ (passes : ℕ → Bool) where
   unfolding find
   any-found list zero h = refl
   any-found list (suc n) h = rw (take-suc list n 0 (omega arith), append, cond-found, or-false, any-found list n (omega arith))
+
+  pub rest-found : (list : List ℕ) (i place : ℕ) → i ≡ place → find passes (drop i list) .found ≡ find passes (from list place) .found
+  rest-found list i place e = rw (from-drop, e)
 
   module _ (list : List ℕ) (place n : ℕ) where
     split : find passes (drop place list) .found ≡ find passes (take n (from list place)) .found || find passes (drop (place + n) list) .found

@@ -54,7 +54,7 @@ pub fn any_too_long(
         | (our_provers.len() > MAX_ENTRIES)
 }
 
-// The suite at a place of a list, if the list is so long.
+// The suite at a place of a list, if the list is so long: the first entry from that place on.
 fn suite_at(list: &[u32], place: usize) -> Common
     ensures { λ r. ⌜ foundOf r ≡ find (λ _. true) (drop place (now (list .entry))) ⌝ }
 {
@@ -66,7 +66,7 @@ fn suite_at(list: &[u32], place: usize) -> Common
 }
 
 // The place of the first entry of `verifiers` found anywhere in `provers`, or the number of verifiers if none is found.
-// Provers are taken in groups of eight, and those that are left one by one.
+// A suite is compared with the provers in groups of eight, and with those behind the last group one by one.
 fn first_common(verifiers: &[u32], provers: &[u32]) -> usize
     ensures { λ r. ⌜ find (λ _. true) (drop r (now (verifiers .entry))) ≡ firstFound (now (verifiers .entry)) (now (provers .entry)) ⌝ }
 {
@@ -79,8 +79,9 @@ fn first_common(verifiers: &[u32], provers: &[u32]) -> usize
                 break 'search;
             }
         }
-        for j in groups * 8..provers.len() {
-            if suite == provers[j] {
+        let rest = &provers[groups * 8..];
+        for j in 0..rest.len() {
+            if suite == rest[j] {
                 break 'search;
             }
         }

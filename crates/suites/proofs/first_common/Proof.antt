@@ -9,7 +9,7 @@ use borrow.Author.Tests.{eq-eqb, ne-eqb}
 use lib.ListN.{length, getD, drop}
 use Rattle.suites.specs.Answer.{Found}
 use Rattle.suites.specs.Choice.{find, firstFound, foundIn}
-use Rattle.suites.proofs.Found.{here, later, at-end, among, past}
+use Rattle.suites.proofs.Found.{here, later, at-end, rest-found, among, past}
 use Rattle.suites.proofs.first_common.Statement.{statement}
 use Rattle.suites.proofs.first_common.Tie as tie
 
@@ -23,10 +23,10 @@ abbrev μ-loop : tie.MeasureT-loop
 μ-loop verifiers provers groups i suite group₀ group = groups - group
 
 abbrev Inv-loop2 : tie.InvT-loop2
-Inv-loop2 verifiers provers groups i suite j₀ j-end j = foundIn provers suite ≡ foundIn (drop j provers) suite
+Inv-loop2 verifiers provers groups i suite rest j₀ j-end j = foundIn provers suite ≡ foundIn (drop j rest) suite
 
 abbrev μ-loop2 : tie.MeasureT-loop2
-μ-loop2 verifiers provers groups i suite j₀ j-end j = j-end - j
+μ-loop2 verifiers provers groups i suite rest j₀ j-end j = j-end - j
 
 abbrev Inv-search : tie.InvT-search
 Inv-search verifiers provers groups i₀ i = firstFound verifiers provers ≡ firstFound (drop i verifiers) provers
@@ -51,9 +51,9 @@ loop-again c =
 
 loop2-holds : tie.Need-loop2-holds Inv-loop μ-loop Inv-loop2 μ-loop2 Inv-search μ-search
 loop2-holds c =
-    let l = c .before .loop in
-    let last : l .group ≡ length (c .before .before .before .before .before .before .before .args .provers .now) / 8 = omega arith in
-    rw (← last) (l .inv .0)
+    let l = c .before .before .loop in
+    let provers = c .before .before .before .before .before .before .before .before .args .provers .now in
+    l .inv .0 ∙ rest-found _ provers (l .group * 8) (length provers / 8 * 8) (omega arith)
 
 loop2-again : tie.Need-loop2-again Inv-loop μ-loop Inv-loop2 μ-loop2 Inv-search μ-search
 loop2-again c =
@@ -63,7 +63,7 @@ loop2-again c =
 search-again : tie.Need-search-again Inv-loop μ-loop Inv-loop2 μ-loop2 Inv-search μ-search
 search-again c =
     let l = c .before .loop2 in
-    let o = c .before .before .before .before .before .before .search in
+    let o = c .before .before .before .before .before .before .before .search in
     o .inv ∙ later _ _ (o .i) (search needs) (l .inv ∙ ap isFound (at-end _ _ (l .j) (c .loop2-test .left)))
 
 returns : tie.Need-returns Inv-loop μ-loop Inv-loop2 μ-loop2 Inv-search μ-search
@@ -80,7 +80,7 @@ returns-2 c =
 returns-3 : tie.Need-returns-3 Inv-loop μ-loop Inv-loop2 μ-loop2 Inv-search μ-search
 returns-3 c =
     let l = c .before .before .before .loop2 in
-    let o = c .before .before .before .before .before .before .before .before .search in
+    let o = c .before .before .before .before .before .before .before .before .before .search in
     stopped _ _ (o .i) (search needs) (o .inv) (l .inv ∙ ap isFound (here _ _ (l .j) (search needs) (eq-eqb _ _ (c .if2 .taken))))
 
 pub first-common-spec : {M : Type 1} → statement M
@@ -106,6 +106,10 @@ first-common-spec =
     (λ c. search needs)
     (λ c. search needs)
     loop-again
+    (λ c. search needs)
+    (λ c. search needs)
+    (λ c. search needs)
+    (λ c. search needs)
     (λ c. search needs)
     loop2-holds
     (λ c. search needs)
