@@ -1,5 +1,2 @@
-pub mod Within
-pub mod Place
 pub mod Found
-pub mod FirstEntries
 pub mod Numbers
