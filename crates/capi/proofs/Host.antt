@@ -6,7 +6,8 @@ use mathlib.Core.List.{List, [], _∷_}
 use Prim.Native.Nat.{ℕ}
 use lib.Dec.{eqb}
 use lib.ListN.{length}
-use Rattle.connection.specs.Also.{decidedAlso, resultAlso}
+use Rattle.connection.specs.Also.{resultAlso}
+use Rattle.decision.specs.Also.{decidedAlso}
 use Rattle.flat.specs.Flat.{recordIn}
 use Rattle.event.specs.Call.{Call, inputOf}
 use Rattle.protocol.specs.Agreement.{AllAgree}

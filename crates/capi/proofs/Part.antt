@@ -8,7 +8,8 @@ use native.Mathlib.Omega.{arith}
 use lib.Dec.{T, eqb}
 use lib.ListN.{length, length-append, take}
 use borrow.Author.Tests.{eqb-true}
-use Rattle.connection.specs.Also.{decidedAlso, resultAlso}
+use Rattle.connection.specs.Also.{resultAlso}
+use Rattle.decision.specs.Also.{decidedAlso}
 use Rattle.event.specs.Call.{Call, carriesPayload, inputOf}
 use Rattle.flat.specs.Flat.{slotsOf}
 use Rattle.record.specs.Limits.{limits}

@@ -1,108 +1,31 @@
--- What is decided where the host's interface may refuse too, and an outcome written in numbers.
+-- The step's result where the host's interface may refuse too.
 -- Assumes nothing.
 use mathlib.Core.Path.{_≡_, refl, sym, subst, ap, _∙_}
-use mathlib.Core.Bool.{Bool, true, false, not, _&&_, cond, false≢true}
+use mathlib.Core.Bool.{Bool, true, false, not, _&&_, cond}
 use mathlib.Core.List.{List}
-use Prim.Native.Nat.{ℕ}
+use Prim.Native.Nat.{ℕ, _≤_}
 use lib.Dec.{eqb}
 use lib.ListN.{length}
-use Rattle.record.specs.Limits.{limits}
-use Rattle.protocol.specs.Actions.{noActions}
-use Rattle.protocol.specs.Faults.{late}
+use Rattle.decision.specs.Also.{decidedAlso}
+use Rattle.decision.specs.Updated.{Updated, leftBy}
 use Rattle.event.specs.Call.{Call, inputOf}
-use Rattle.protocol.specs.Step.{refusalNumber, unchanged, handledTo, decided, stepOf, refusalOf, cacheAfter, resultWith, resultOf}
+use Rattle.event.specs.declared.Input.{Input}
+use Rattle.flat.specs.Flat.{recordIn, slotsOf}
+use Rattle.record.specs.Limits.{limits}
+use Rattle.record.specs.declared.Connection.{Connection}
+use Rattle.table.specs.Table.{ignored}
+use Rattle.protocol.specs.Condition.{nextState}
+use Rattle.protocol.specs.Refusal.{refusal}
+use Rattle.protocol.specs.Step.{unchanged, handledTo, decided, stepOf, refusalOf, cacheAfter, resultWith, resultOf}
 use Rattle.protocol.specs.declared.Answer.{Answer}
 use Rattle.protocol.specs.declared.Answer.the-variants.{Handled, Ignored, Refused}
 use Rattle.protocol.specs.declared.Outcome.{Outcome}
-use Rattle.record.specs.declared.Connection.{Connection}
-use Rattle.event.specs.declared.Input.{Input}
-use Rattle.connection.specs.Also.{decidedAlso, resultAlso}
-use Rattle.connection.specs.Late.{lateAlso}
-use Rattle.flat.specs.Flat.{recordIn, slotsOf}
-use Rattle.flat.specs.Written.{Written}
-use Rattle.protocol.proofs.Decided.{number-is}
 use Rattle.protocol.proofs.Stepped.{never-refused}
-
--- What is written of an outcome is written of one that equals it.
-pub as-written : (o p : Outcome) (answer : Answer) (numbers slots : List ℕ) → o ≡ p → Written o answer numbers slots → Written p answer numbers slots
-as-written o p answer numbers slots = subst (λ (x : Outcome). Written x answer numbers slots)
-
--- A call that changes nothing: the record is not written, and the sheet is empty.
-pub unmoved-written : (connection : Connection) (told answer : Answer) (numbers slots : List ℕ) → answer ≡ told → recordIn numbers ≡ connection → slots ≡ slotsOf noActions
-    → Written (unchanged told connection) answer numbers slots
-unmoved-written connection told answer numbers slots a r o = record { answered = a; record-left = r; ordered = o }
-
-module _ (also : ℕ) (connection : Connection) (code : ℕ) (input : Input) where
-  -- The same of the step's own outcome, whose answer has the number of the refusal.
-  also-of : (o : Outcome) → o ≡ decided limits connection code input → cond (eqb (refusalNumber (o .answer)) 0 && not (eqb also 0)) (unchanged (Refused also) connection) o ≡ decidedAlso also connection code input
-  unfolding decidedAlso
-  also-of o e =
-      let n = ap (λ (x : Outcome). refusalNumber (x .answer)) e ∙ number-is limits connection code input in
-      λ i. cond (eqb (n i) 0 && not (eqb also 0)) (unchanged (Refused also) connection) (e i)
-
-  -- The step refuses.
-  pub refused-also : (number : ℕ) → eqb number 0 ≡ false → unchanged (Refused number) connection ≡ decided limits connection code input → unchanged (Refused number) connection ≡ decidedAlso also connection code input
-  refused-also number n e = rw n at (also-of (unchanged (Refused number) connection) e)
-
-  -- It ignores the event.
-  ignored-also : unchanged Ignored connection ≡ decided limits connection code input → unchanged (cond (eqb also 0) Ignored (Refused also)) connection ≡ decidedAlso also connection code input
-  ignored-also e = by-also (eqb also 0) ∙ also-of (unchanged Ignored connection) e
-    where
-      by-also : (b : Bool) → unchanged (cond b Ignored (Refused also)) connection ≡ cond (not b) (unchanged (Refused also) connection) (unchanged Ignored connection)
-      by-also true = refl
-      by-also false = refl
-
-  module _ (to : ℕ) (e : handledTo to connection code input ≡ decided limits connection code input) where
-    -- It would handle the event, and the interface refuses.
-    refused-by-also : eqb also 0 ≡ false → unchanged (Refused also) connection ≡ decidedAlso also connection code input
-    refused-by-also a = rw a at (also-of (handledTo to connection code input) e)
-
-    -- It handles the event.
-    handled-also : also ≡ 0 → handledTo to connection code input ≡ decidedAlso also connection code input
-    handled-also a = (rw a) ∙ also-of (handledTo to connection code input) e
-
--- Where faults 1 to 8 are absent, by the later ones.
-module _ (also : ℕ) (connection : Connection) (code : ℕ) (input : Input) where
-  abbrev own : ℕ
-  own = late input
-
-  -- The step's outcome, where it is that of an event, unless a later fault is present.
-  abbrev Unless : Outcome → (free : Bool) → Type 0
-  Unless outcome free = cond free outcome (unchanged (Refused own) connection) ≡ decided limits connection code input
-
-  -- The event is ignored.
-  pub ignored-late : Unless (unchanged Ignored connection) (eqb own 0)
-      → unchanged (cond (eqb (lateAlso also input) 0) Ignored (Refused (lateAlso also input))) connection ≡ decidedAlso also connection code input
-  ignored-late = by-own (eqb own 0) refl
-    where
-      by-own : (free : Bool) → eqb own 0 ≡ free → Unless (unchanged Ignored connection) free
-          → unchanged (cond (eqb (cond free also own) 0) Ignored (Refused (cond free also own))) connection ≡ decidedAlso also connection code input
-      by-own true f e = ignored-also also connection code input e
-      by-own false f e = rw f (refused-also also connection code input own f e)
-
-  module _ (to : ℕ) where
-    -- It would be handled, and is refused.
-    pub refused-late : Unless (handledTo to connection code input) (eqb own 0) → eqb (lateAlso also input) 0 ≡ false
-        → unchanged (Refused (lateAlso also input)) connection ≡ decidedAlso also connection code input
-    refused-late = by-own (eqb own 0) refl
-      where
-        by-own : (free : Bool) → eqb own 0 ≡ free → Unless (handledTo to connection code input) free → eqb (cond free also own) 0 ≡ false
-            → unchanged (Refused (cond free also own)) connection ≡ decidedAlso also connection code input
-        by-own true f e a = refused-by-also also connection code input to e a
-        by-own false f e a = refused-also also connection code input own f e
-
-    -- It is handled.
-    pub handled-late : Unless (handledTo to connection code input) (eqb own 0) → lateAlso also input ≡ 0
-        → handledTo to connection code input ≡ decidedAlso also connection code input
-    handled-late = by-own (eqb own 0) refl
-      where
-        by-own : (free : Bool) → eqb own 0 ≡ free → Unless (handledTo to connection code input) free → cond free also own ≡ 0
-            → handledTo to connection code input ≡ decidedAlso also connection code input
-        by-own true f e a = handled-also also connection code input to e a
-        by-own false f e a = absurd (false≢true (sym f ∙ ap (λ (n : ℕ). eqb n 0) a))
+use Rattle.connection.specs.Also.{resultAlso}
+use Rattle.connection.proofs.Cache.{room-for}
 
 -- A call that is handled is handled by the step.
-pub handled-by-step : (also : ℕ) (connection : Connection) (call : Call) (cache : List ℕ) → decidedAlso also connection (call .event .code) (inputOf limits call (length cache)) .answer ≡ Handled
+handled-by-step : (also : ℕ) (connection : Connection) (call : Call) (cache : List ℕ) → decidedAlso also connection (call .event .code) (inputOf limits call (length cache)) .answer ≡ Handled
     → stepOf limits connection call (length cache) .answer ≡ Handled
 unfolding decidedAlso
 handled-by-step also connection call cache = by-refusal (eqb (refusalOf limits connection call (length cache)) 0 && not (eqb also 0))
@@ -120,3 +43,42 @@ none-also connection call cache =
     by-refusal : (b : Bool) → cond (b && false) (unchanged (Refused 0) connection) (stepOf limits connection call (length cache)) ≡ stepOf limits connection call (length cache)
     by-refusal true = refl
     by-refusal false = refl
+
+-- An event that is not handled leaves the record.
+left-by : (also n to : ℕ) (connection : Connection) (code : ℕ) (input : Input) (refuses none ignores : Bool)
+    → let o = cond refuses (unchanged (Refused also) connection) (cond none (cond ignores (unchanged Ignored connection) (handledTo to connection code input)) (unchanged (Refused n) connection)) in
+    leftBy (o .answer) (o .connection) connection ≡ o .connection
+left-by also n to connection code input true none ignores = refl
+left-by also n to connection code input false true true = refl
+left-by also n to connection code input false true false = refl
+left-by also n to connection code input false false ignores = refl
+
+left-is : (also : ℕ) (connection : Connection) (code : ℕ) (input : Input) → let o = decidedAlso also connection code input in leftBy (o .answer) (o .connection) connection ≡ o .connection
+unfolding decidedAlso decided
+left-is also connection code input =
+    let n = refusal limits connection code input in
+    let to = nextState connection code input in
+    left-by also n to connection code input (eqb n 0 && not (eqb also 0)) (eqb n 0) (eqb to ignored)
+
+-- What was decided for the record before and the input of a call, and what is then promised.
+module _ (also : ℕ) (before : Connection) (call : Call) (cache : List ℕ) (connection : Connection) (input : Input)
+    (answer : Answer) (numbers slots : List ℕ) (same : connection ≡ before) (is-read : input ≡ inputOf limits call (length cache))
+    (u : Updated (decidedAlso also connection (call .event .code) input) before answer numbers slots) where
+  updated : Updated (decidedAlso also before (call .event .code) (inputOf limits call (length cache))) before answer numbers slots
+  updated = subst (λ (o : Outcome). Updated o before answer numbers slots) (λ i. decidedAlso also (same i) (call .event .code) (is-read i)) u
+
+  -- Answer, record, actions and cache.
+  pub promised : (after : List ℕ) → after ≡ cacheAfter answer call cache
+      → (answer ≡ resultAlso also before call cache .outcome .answer) × ((recordIn numbers ≡ resultAlso also before call cache .outcome .connection) × ((slots ≡ slotsOf (resultAlso also before call cache .outcome .actions)) × (after ≡ resultAlso also before call cache .cache)))
+  unfolding resultAlso
+  promised after c = (
+    updated .answered,
+    (
+      updated .record-left ∙ left-is also before (call .event .code) (inputOf limits call (length cache)),
+      (updated .ordered, c ∙ ap (λ (y : Answer). cacheAfter y call cache) (updated .answered)),
+    ),
+  )
+
+  -- There is room for the block of a handled event 2.
+  pub room : answer ≡ Handled → call .event .code ≡ 2 → length (call .payload) ≤ length cache
+  room e two = room-for limits before call cache (handled-by-step also before call cache (sym (updated .answered) ∙ e)) two

@@ -34,8 +34,8 @@ module _ (call : Call) (cache : List ℕ) where
   kept Ignored o = refl
   kept (Refused n) o = refl
 
-  pub written : call .event .code ≡ 2 → stored (call .payload) cache ≡ cacheAfter Handled call cache
-  written e = rw (eq-eqb (call .event .code) 2 e)
+  pub written : (x : Answer) → x ≡ Handled → call .event .code ≡ 2 → stored (call .payload) cache ≡ cacheAfter x call cache
+  written x h e = rw (h, eq-eqb (call .event .code) 2 e)
 
-  pub unwritten : (call .event .code ≡ 2 → ⊥) → cache ≡ cacheAfter Handled call cache
-  unwritten e = rw (ne-eqb (call .event .code) 2 e)
+  pub unwritten : (x : Answer) → x ≡ Handled → (call .event .code ≡ 2 → ⊥) → cache ≡ cacheAfter x call cache
+  unwritten x h e = rw (h, ne-eqb (call .event .code) 2 e)

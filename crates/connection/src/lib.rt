@@ -3,22 +3,16 @@
 // The host runs sockets, timers, attestation drivers and the check of a token's signature. It hands
 // in what happened, and carries out the actions that it gets back.
 ghost use mathlib.Core.Path.{_≡_};
+ghost use Prim.Native.Nat.{_≤_};
+ghost use lib.ListN.{length};
 ghost use Rattle.record.specs.Limits.{limits};
-ghost use Rattle.protocol.specs.Block.{partOf};
 ghost use Rattle.event.specs.Call.{callOf};
+ghost use Rattle.protocol.specs.Block.{stored};
 ghost use Rattle.protocol.specs.Step.{refusalNumber, refusalOf, resultOf};
 ghost use Rattle.connection.specs.Also.{resultAlso};
 ghost use Rattle.flat.specs.Flat.{recordIn, slotsOf};
-ghost use lib.ListN.{length};
-
-mod block;
-mod condition;
-mod judging;
-mod moving;
-
-use crate::block::front;
-use crate::block::store;
-use crate::judging::decide;
+use decision::decide;
+use effects::NO_ACTIONS;
 pub use event::Event;
 use event::choose_suites;
 use event::read;
@@ -27,7 +21,8 @@ use flat::actions_in;
 use flat::numbers_of;
 use flat::record_in;
 use flat::slots_of;
-use moves::NO_ACTIONS;
+pub use outcome::part;
+pub use outcome::refusal_number;
 pub use protocol::Actions;
 pub use protocol::Answer;
 pub use protocol::Outcome;
@@ -37,16 +32,6 @@ pub use record::Connection;
 pub use record::fresh;
 pub use table::codes;
 pub use table::states;
-
-// The number of a refusal, 0 for an answer that is none.
-pub fn refusal_number(answer: Answer) -> u32
-    ensures { λ r. ⌜ r ≡ refusalNumber answer ⌝ }
-{
-    let Answer::Refused(number) = answer else {
-        return refusals::NONE;
-    };
-    number
-}
 
 // One step. A handled `UPPER_SEND_DATA` stores its payload in the cache; nothing else writes it.
 pub fn step(
@@ -123,15 +108,12 @@ pub fn step_flat(
     answer
 }
 
-// The payload part of a call's actions: of the event's payload, or of the cache as the step left it.
-pub fn part<'a>(actions: Actions, payload: &'a [u8], cache: &'a [u8]) -> &'a [u8]
-    ensures { λ r. ⌜ now r ≡ partOf actions (now (payload .entry)) (now (cache .entry)) ⌝ }
+// Copies the payload to the first bytes of the cache.
+fn store(cache: &mut [u8], payload: &[u8])
+    requires { ⌜ length (now payload) ≤ length (now cache) ⌝ }
+    ensures { λ _. ⌜ now (cache .exit) ≡ stored (now (payload .entry)) (now (cache .entry)) ⌝ }
 {
-    let slice = actions.payload_slice;
-    let len = actions.payload_len as usize;
-    match slice {
-        orders::OF_EVENT => front(payload, len),
-        orders::OF_CACHE => front(cache, len),
-        _ => front(payload, 0),
+    for i in 0..payload.len() {
+        cache[i] = payload[i];
     }
 }

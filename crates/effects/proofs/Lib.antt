@@ -1,0 +1,2 @@
+pub mod ByTest
+pub mod Effects

@@ -1,0 +1,12 @@
+-- `lifecycle::locking::ended` meets its contract.
+use Rattle.lifecycle.proofs.locking.ended.Statement.{statement}
+use Rattle.lifecycle.proofs.locking.ended.Tie as tie
+
+returns : tie.Need-returns
+returns c = rw (c .if1 .taken)
+
+returns-2 : tie.Need-returns-2
+returns-2 c = rw (c .if1 .left)
+
+pub ended-spec : {M : Type 1} → statement M
+ended-spec = tie.close (tie.spec returns returns-2)
