@@ -10,16 +10,14 @@ use lib.ListN.{length, take}
 use lib.Seq.{length-take-le}
 use Rattle.wire.specs.Varint.{Number, value, fault, numberAt, asBit}
 use Rattle.wire.specs.Layout.{Block, block, faulty, blockAt, afterBlock, afterNumber, afterKey, places, fieldNumber, wireType, entriesFrom, fieldsFrom}
-use Rattle.messages.specs.Schema.{isUnknown, wrongType}
 use Rattle.wire.specs.Fault.{Fault, at, faultIf, orElse, leftmost, refused, judged}
-use Rattle.messages.specs.Faults.{FieldNumbers, adding, fieldOf, ofNumber, ofList, ofBytes, ofEntries, ofContent, ofField, ofFields}
-use Rattle.messages.specs.Steps.{afterContent}
-use Rattle.messages.specs.declared.schema.Form.{Form}
-use Rattle.messages.specs.declared.schema.Form.the-variants.{Unknown, Bytes, Provers, Verifiers, Bit}
-use Rattle.wire.proofs.Order.{Between, widen, joined, not-before}
+use Rattle.wire.specs.Lists.{ofNumber, ofList, ofEntries}
+use Rattle.wire.proofs.Order.{Between, absurd-bool, widen, joined, not-before}
 use Rattle.wire.proofs.Places.{Stands, stands, BlockStands, block-stands}
 use Rattle.wire.proofs.Lists.{entries-all}
-use Rattle.messages.proofs.Forms.{absurd-bool}
+use Rattle.fields.specs.Schema.{Form, Unknown, Bytes, Provers, Verifiers, Bit, isUnknown, wrongType}
+use Rattle.fields.specs.Faults.{FieldNumbers, adding, fieldOf, ofBytes, ofContent, ofField, ofFields}
+use Rattle.fields.specs.Steps.{afterContent}
 
 -- The faults of a key: an unexpected field, then a wrong wire type.
 module _ {A : Type 0} (x : A) (place : ℕ) (others : List Fault) where

@@ -1,37 +1,16 @@
 -- The schema's fields by number and by form.
-use mathlib.Core.Path.{_≡_, refl, sym, ap, subst, _∙_}
+use mathlib.Core.Path.{_≡_, refl, sym, ap, _∙_}
 use mathlib.Core.Bool.{Bool, true, false, not, _&&_, or-true}
 use mathlib.Core.List.{List, [], _∷_}
-use Prim.Native.Nat.{ℕ, zero, suc, _<_, _≤_}
+use Prim.Native.Nat.{ℕ, zero, suc, _≤_}
 use native.Mathlib.Decide.{ℕ-discrete}
 use native.Mathlib.Omega.{arith}
 use lib.Dec.{eqb, ltb}
 use borrow.Author.Tests.{eq-eqb, ne-eqb, eqb-true, ltb-true, ltb-false}
 use lib.ListN.{length, getD, List·getD-eq-default}
-use Rattle.messages.specs.Schema.{schema, formIn, isUnknown}
-use Rattle.messages.specs.Fields.{formCode, isForm}
-use Rattle.messages.specs.Whole.{contains}
-use Rattle.messages.specs.declared.schema.Form.{Form}
-use Rattle.messages.specs.declared.schema.Form.the-variants.{Unknown, Bytes, Provers, Verifiers, Bit}
-
--- A message has no field but those of its row.
-pub other : (row : List Form) (k : ℕ) → (1 ≤ k → length row < k) → Unknown ≡ getD (Unknown ∷ row) k Unknown
-other row zero h = refl
-other row (suc k) h = let j = h (omega arith) in sym (List·getD-eq-default row Unknown {n = k} (omega arith))
-
--- Only six messages have fields.
-pub no-fields : (m k : ℕ) → (m ≡ 1 → ⊥) → (m ≡ 4 → ⊥) → (m ≡ 6 → ⊥) → (m ≡ 7 → ⊥) → (m ≡ 8 → ⊥) → (m ≡ 9 → ⊥) → Unknown ≡ getD (getD schema m []) k Unknown
-no-fields zero k a b c d e f = refl
-no-fields (suc zero) k a b c d e f = absurd (a refl)
-no-fields (suc (suc zero)) k a b c d e f = refl
-no-fields (suc (suc (suc zero))) k a b c d e f = refl
-no-fields (suc (suc (suc (suc zero)))) k a b c d e f = absurd (b refl)
-no-fields (suc (suc (suc (suc (suc zero))))) k a b c d e f = refl
-no-fields (suc (suc (suc (suc (suc (suc zero)))))) k a b c d e f = absurd (c refl)
-no-fields (suc (suc (suc (suc (suc (suc (suc zero))))))) k a b c d e f = absurd (d refl)
-no-fields (suc (suc (suc (suc (suc (suc (suc (suc zero)))))))) k a b c d e f = absurd (e refl)
-no-fields (suc (suc (suc (suc (suc (suc (suc (suc (suc zero))))))))) k a b c d e f = absurd (f refl)
-no-fields (suc (suc (suc (suc (suc (suc (suc (suc (suc (suc m)))))))))) k a b c d e f = refl
+use Rattle.wire.proofs.Order.{absurd-bool}
+use Rattle.fields.specs.Schema.{Form, Unknown, Bytes, Provers, Verifiers, Bit, schema, formIn, isUnknown}
+use Rattle.fields.specs.Fields.{contains, formCode, isForm}
 
 -- What holds of every row of a list of rows, and of the empty one, holds of the row at any place.
 abbrev Every : (List Form → Type 0) → List (List Form) → Type 0
@@ -64,6 +43,11 @@ known (f ∷ row) s (suc k) e = by-place (ltb k (length row)) refl
 pub known-number : (m k : ℕ) → isUnknown (formIn m k) ≡ false → (1 ≤ k) × (k ≤ 3)
 unfolding formIn
 known-number m k e = known (getD schema m []) (row-at Short tt schema short-schema m) k e
+
+-- No number above 9 is a message's.
+pub no-message : (m k : ℕ) → 10 ≤ m → formIn m k ≡ Unknown
+unfolding formIn
+no-message m k h = ap (λ (row : List Form). getD row k Unknown) (List·getD-eq-default schema [] {n = m} h)
 
 -- A form that is found in a row is contained in it.
 pub contained : (row : List Form) (k : ℕ) (form : Form) → formCode (getD row k Unknown) ≡ formCode form → isForm form Unknown ≡ false → contains form row ≡ true

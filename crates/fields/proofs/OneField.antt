@@ -1,25 +1,23 @@
 -- A step over one field, by its key.
 use mathlib.Core.Path.{_≡_, refl, sym, ap, subst, _∙_}
-use mathlib.Core.Bool.{Bool, true, false, cond, _||_}
+use mathlib.Core.Bool.{Bool, true, false, cond, not, _||_}
 use mathlib.Core.List.{List}
 use Prim.Native.Nat.{ℕ}
 use lib.Dec.{eqb}
 use Rattle.wire.specs.Varint.{value, fault, numberAt}
 use Rattle.wire.specs.Layout.{fieldNumber, wireType}
-use Rattle.messages.specs.Schema.{formIn, isUnknown, wrongType}
 use Rattle.wire.specs.Fault.{leftmost, judged}
-use Rattle.messages.specs.Faults.{FieldNumbers, adding, ofContent}
-use Rattle.messages.specs.Message.{filled}
-use Rattle.messages.specs.Numbers.{refusalNumber}
-use Rattle.messages.specs.Fields.{Fields, Step, Tidy, Unread, isForm, isRead, marked, misfitOf, seenIn, stage, stop, viewOf, withMark}
-use Rattle.messages.specs.Steps.{ContentStep, FieldStep, afterContent}
+use Rattle.wire.specs.Refusals.{refusalNumber}
 use Rattle.wire.specs.declared.Refusal.{Refusal}
 use Rattle.wire.specs.declared.Refusal.the-variants.{UnexpectedField, WrongWireType}
-use Rattle.messages.specs.declared.keys.Marks.{Marks}
-use Rattle.messages.specs.declared.schema.Form.{Form}
-use Rattle.messages.specs.declared.schema.Form.the-variants.{Unknown, Bytes, Provers, Verifiers, Bit}
-use Rattle.messages.proofs.FieldSteps.{unexpected, wrongly-typed, announced, content-end}
-use Rattle.messages.proofs.Forms.{absurd-bool, one-form}
+use Rattle.wire.proofs.Order.{absurd-bool}
+use Rattle.fields.specs.Schema.{Form, Unknown, Bytes, Provers, Verifiers, Bit, formIn, isUnknown, wrongType}
+use Rattle.fields.specs.Faults.{FieldNumbers, adding, ofContent}
+use Rattle.fields.specs.Message.{filled}
+use Rattle.fields.specs.Fields.{Fields, Marks, Step, isForm, isRead, isUnexpected, marked, seenIn, stage, stop, viewOf, withMark}
+use Rattle.fields.specs.Steps.{ContentStep, FieldStep, afterContent}
+use Rattle.fields.proofs.FieldSteps.{unexpected, wrongly-typed, announced, content-end}
+use Rattle.fields.proofs.Forms.{one-form}
 
 -- A form that is marked has been read, and so have those before it.
 read-marked : (form other : Form) (read : Marks) → isUnknown other ≡ false → isRead form (marked other read) ≡ (isForm form other || isRead form read)
@@ -43,22 +41,10 @@ neither : (b c : Bool) → b ≡ false → c ≡ false → (b || c) ≡ false
 neither true c p q = absurd-bool p
 neither false c p q = q
 
--- A list that has not been read once a form is marked had not been read before.
-unread : (b read : Bool) (list : List ℕ) → Unread read list → Unread (b || read) list
-unread true read list h = λ e. absurd-bool e
-unread false read list h = h
-
-tidy-marked : (form : Form) (f : Fields) (provers verifiers : List ℕ) → Tidy f provers verifiers → Tidy (withMark form f) provers verifiers
-tidy-marked form f provers verifiers t = (
-  (t .0 .0, unread (isForm Provers form) (f .read .provers) provers (t .0 .1)),
-  (t .1 .0, unread (isForm Verifiers form) (f .read .verifiers) verifiers (t .1 .1)),
-)
-
--- No key that fits: an unknown field, one that has been read, or a wrong wire type.
-abbrev pub Misfit : (message key : ℕ) → Marks → Type 0
-Misfit message key read =
-    let form = formIn message (fieldNumber key) in
-    (isUnknown form || isRead form read) ≡ false → wrongType form (wireType key) ≡ false → ⊥
+-- Why a key is refused: the field that it names is expected or not, and if it is, the wire type is wrong.
+pub record Refuses (message key : ℕ) (read : Marks) (expected : Bool) : Type 0 where
+  pub says : expected ≡ not (isUnexpected message (fieldNumber key) read)
+  pub mistyped : isUnexpected message (fieldNumber key) read ≡ false → wrongType (formIn message (fieldNumber key)) (wireType key) ≡ false → ⊥
 
 module _ (number : ℕ) (bytes : List ℕ) (place : ℕ) (f : Fields) (provers verifiers : List ℕ) where
   pub key-faulty : (refusal : Refusal) → numberAt bytes place ≡ fault (refusalNumber refusal) →
@@ -70,28 +56,25 @@ module _ (number : ℕ) (bytes : List ℕ) (place : ℕ) (f : Fields) (provers v
     abbrev form : Form
     form = formIn number (fieldNumber key)
 
-    -- An unknown or repeated field.
-    abbrev isUnexpected : Bool
-    isUnexpected = isUnknown form || isRead form (f .read)
-
     abbrev isMistyped : Bool
     isMistyped = wrongType form (wireType key)
 
-    key-misfit : Misfit number key (f .read) → FieldStep number bytes place f provers verifiers (stop (misfitOf number key (f .read))) provers verifiers
-    key-misfit h = by-tests isUnexpected isMistyped refl refl
-      where
-        by-tests : (b c : Bool) → isUnexpected ≡ b → isMistyped ≡ c →
-            FieldStep number bytes place f provers verifiers (stop (cond b UnexpectedField WrongWireType)) provers verifiers
-        by-tests true c u w = record { reads = rw (e) (sym (unexpected _ place _ isUnexpected isMistyped u)); tidies = λ t. tt }
-        by-tests false true u w = record { reads = rw (e) (sym (wrongly-typed _ place _ isUnexpected isMistyped u w)); tidies = λ t. tt }
-        by-tests false false u w = absurd (h u w)
-
     -- A key that does not fit.
-    pub key-refused : (read : Marks) → f .read ≡ read → Misfit number key read → (refusal : Refusal) → refusal ≡ misfitOf number key read →
+    pub key-refused : (read : Marks) → f .read ≡ read → (expected : Bool) → Refuses number key read expected → (refusal : Refusal) → refusal ≡ cond expected WrongWireType UnexpectedField →
         FieldStep number bytes place f provers verifiers (stop refusal) provers verifiers
-    key-refused read m h refusal r =
-        subst (λ (q : Refusal). FieldStep number bytes place f provers verifiers (stop q) provers verifiers) (ap (misfitOf number key) m ∙ sym r)
-        (key-misfit (subst (Misfit number key) (sym m) h))
+    key-refused read m expected h refusal r =
+        subst (λ (q : Refusal). FieldStep number bytes place f provers verifiers (stop q) provers verifiers)
+        (sym (r ∙ ap (λ (e : Bool). cond e WrongWireType UnexpectedField) (own .says)))
+        (by-tests (isUnexpected number (fieldNumber key) (f .read)) isMistyped refl refl)
+      where
+        own : Refuses number key (f .read) expected
+        own = subst (λ (q : Marks). Refuses number key q expected) (sym m) h
+
+        by-tests : (b c : Bool) → isUnexpected number (fieldNumber key) (f .read) ≡ b → isMistyped ≡ c →
+            FieldStep number bytes place f provers verifiers (stop (cond (not b) WrongWireType UnexpectedField)) provers verifiers
+        by-tests true c u w = record { reads = rw (e) (sym (unexpected _ place _ (isUnexpected number (fieldNumber key) (f .read)) isMistyped u)); tidies = λ t. tt }
+        by-tests false true u w = record { reads = rw (e) (sym (wrongly-typed _ place _ (isUnexpected number (fieldNumber key) (f .read)) isMistyped u w)); tidies = λ t. tt }
+        by-tests false false u w = absurd (own .mistyped u w)
 
     key-fits : (form′ : Form) → form ≡ form′ → isUnknown form′ ≡ false → isRead form′ (f .read) ≡ false → wrongType form′ (wireType key) ≡ false →
         (r : Step) (provers′ verifiers′ : List ℕ) → ContentStep form′ bytes behindKey (withMark form′ f) provers verifiers r provers′ verifiers′ →
@@ -108,8 +91,8 @@ module _ (number : ℕ) (bytes : List ℕ) (place : ℕ) (f : Fields) (provers v
               (sym (one-marked number (fieldNumber key) (f .read) known))
               ∙ ap (λ (n : ℕ). judged (ofContent form bytes behindKey) (stage (adding (fieldNumber key) (seenIn number (f .read))) (filled form bytes behindKey (viewOf number f provers verifiers)) n))
               (content-end bytes form key behindKey known typed)
-              ∙ rw (e, announced place (ofContent form bytes behindKey) isUnexpected isMistyped fresh typed);
-          tidies = λ t. s .tidies (tidy-marked form f provers verifiers t);
+              ∙ rw (e, announced place (ofContent form bytes behindKey) (isUnexpected number (fieldNumber key) (f .read)) isMistyped fresh typed);
+          tidies = λ t. s .tidies t;
         }
 
     -- A key that fits announces what its field holds.

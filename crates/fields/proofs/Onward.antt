@@ -8,22 +8,20 @@ use native.Mathlib.Omega.{arith}
 use lib.ListN.{length}
 use Rattle.wire.specs.Varint.{numberAt}
 use Rattle.wire.specs.Layout.{afterKey, fieldsFrom}
-use Rattle.messages.specs.Schema.{formIn}
 use Rattle.wire.specs.Fault.{Fault, leftmost, readAs, refused, judged}
-use Rattle.messages.specs.Faults.{FieldNumbers, noNumbers, adding, fieldOf, ofField, ofFields}
-use Rattle.messages.specs.Message.{withField, withFields}
-use Rattle.messages.specs.Numbers.{refusalNumber, entries, padded}
-use Rattle.messages.specs.Fields.{Fields, Stage, Step, Tidy, isRead, nothing, proceed, seenIn, stage, stepIn, stop, viewOf}
-use Rattle.messages.specs.Steps.{FieldStep, fieldsOf}
+use Rattle.wire.specs.Lists.{entries, padded}
+use Rattle.wire.specs.Refusals.{refusalNumber}
 use Rattle.wire.specs.declared.Refusal.{Refusal}
-use Rattle.messages.specs.declared.schema.Form.{Form}
-use Rattle.messages.specs.declared.schema.Form.the-variants.{Unknown, Bytes, Provers, Verifiers, Bit}
-use Rattle.messages.proofs.FieldSteps.{field-between, field-ends, fields-from}
 use Rattle.wire.proofs.Order.{Between, append-refused, append-read}
 use Rattle.wire.proofs.Places.{at-end, one-more}
+use Rattle.fields.specs.Schema.{Form, Unknown, Bytes, Provers, Verifiers, Bit, formIn}
+use Rattle.fields.specs.Faults.{FieldNumbers, noNumbers, adding, fieldOf, ofField, ofFields}
+use Rattle.fields.specs.Message.{withField, withFields}
+use Rattle.fields.specs.Fields.{Fields, Stage, Step, Tidy, isRead, nothing, proceed, seenIn, stage, stepIn, stop, viewOf}
+use Rattle.fields.specs.Steps.{FieldStep, fieldsOf}
+use Rattle.fields.proofs.FieldSteps.{field-between, field-ends, fields-from}
 
 pub record Onward (number : ℕ) (bytes : List ℕ) (start : ℕ) (f : Fields) (provers verifiers : List ℕ) (at : ℕ) : Type 0 where
-  pub within : at ≤ length bytes
   pub reads :
       judged (ofFields (formIn number) (seenIn number (f .read)) bytes (fieldsFrom bytes at)) (withFields bytes (fieldsFrom bytes at) (viewOf number f provers verifiers))
       ≡ fieldsOf number bytes start
@@ -43,15 +41,11 @@ pub no-entries : (list : List ℕ) → entries 0 list ≡ []
 no-entries list = rw (zero-sub (length list))
 
 pub tidy-first : (provers verifiers : List ℕ) → provers ≡ padded [] → verifiers ≡ padded [] → Tidy nothing provers verifiers
-tidy-first provers verifiers p v = (
-  ((omega arith, p ∙ ap padded (sym (no-entries provers))), λ e. p),
-  ((omega arith, v ∙ ap padded (sym (no-entries verifiers))), λ e. v),
-)
+tidy-first provers verifiers p v = ((omega arith, p ∙ ap padded (sym (no-entries provers))), (omega arith, v ∙ ap padded (sym (no-entries verifiers))))
 
-pub begins : (number : ℕ) (bytes : List ℕ) (start : ℕ) (provers verifiers : List ℕ) → start ≤ length bytes →
-    Onward number bytes start nothing provers verifiers start
+pub begins : (number : ℕ) (bytes : List ℕ) (start : ℕ) (provers verifiers : List ℕ) → Onward number bytes start nothing provers verifiers start
 unfolding fieldsOf
-begins number bytes start provers verifiers h = record { within = h; reads = rw (none-seen number, no-entries provers, no-entries verifiers) }
+begins number bytes start provers verifiers = record { reads = rw (none-seen number, no-entries provers, no-entries verifiers) }
 
 module _ (number : ℕ) (bytes : List ℕ) (start : ℕ) (f : Fields) (provers verifiers : List ℕ) (at : ℕ) (o : Onward number bytes start f provers verifiers at) where
   -- All fields have been read.
@@ -97,7 +91,6 @@ module _ (number : ℕ) (bytes : List ℕ) (start : ℕ) (f : Fields) (provers v
 
       pub goes-on : Onward number bytes start read provers′ verifiers′ after
       goes-on = record {
-        within = further .1;
         reads =
             ap (λ (g : Stage). judged (ofFields (formIn number) (g .former) bytes (fieldsFrom bytes (g .next))) (withFields bytes (fieldsFrom bytes (g .next)) (g .message))) (sym (reached .0))
             ∙ sym (reached .1) ∙ now;

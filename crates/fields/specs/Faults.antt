@@ -9,10 +9,8 @@ use lib.ListN.{length, take}
 use Rattle.wire.specs.Varint.{Number, value, fault, numberAt, bitAt}
 use Rattle.wire.specs.Layout.{Block, block, faulty, blockAt, fieldNumber, wireType, fieldsFrom}
 use Rattle.wire.specs.Lists.{ofNumber, ofList}
-use Rattle.messages.specs.Schema.{formIn, outerForm, isUnknown, wrongType}
 use Rattle.wire.specs.Fault.{Fault, at, faultIf, orElse}
-use Rattle.messages.specs.declared.schema.Form.{Form}
-use Rattle.messages.specs.declared.schema.Form.the-variants.{Unknown, Bytes, Provers, Verifiers, Bit}
+use Rattle.fields.specs.Schema.{Form, Unknown, Bytes, Provers, Verifiers, Bit, formIn, isUnknown, wrongType}
 
 -- A set of field numbers, by the test that its members pass.
 abbrev pub FieldNumbers : Type 0
@@ -70,14 +68,3 @@ ofInner number bytes place (block start size) =
     ofFields (formIn number) noNumbers (take (start + size) bytes) (fieldsFrom (take (start + size) bytes) start)
     ++ faultIf (ltb (start + size) (length bytes)) (at (start + size) 22)
 ofInner number bytes place (faulty refusal) = at place refusal ∷ []
-
--- The faults of the outer message, by the key at its first byte.
-abbrev pub ofOuter : List ℕ → Number → List Fault
-ofOuter bytes (value key next) =
-    orElse (ofKey outerForm noNumbers 0 key) (ofInner (fieldNumber key) bytes next (blockAt bytes next))
-ofOuter bytes (fault refusal) = at 0 refusal ∷ []
-
--- The faults of lent bytes. No bytes have no outer field: refusal 22.
-unfoldable pub faultsOf : List ℕ → List Fault
-faultsOf [] = at 0 22 ∷ []
-faultsOf (byte ∷ bytes) = ofOuter (byte ∷ bytes) (numberAt (byte ∷ bytes) 0)

@@ -1,27 +1,29 @@
 -- What has been read of a message between two of its fields, and how far. No public contract rests on this file.
-use mathlib.Core.Path.{_≡_}
 use Prim.Native.Nat.{ℕ}
-use mathlib.Core.Bool.{Bool, false, cond, _||_}
-use mathlib.Core.List.{List, []}
+use mathlib.Core.Bool.{Bool, false, _||_}
+use mathlib.Core.List.{List, [], _∷_}
 use lib.Dec.{eqb}
-use Rattle.wire.specs.Layout.{fieldNumber}
-use Rattle.messages.specs.Schema.{formIn, isUnknown}
 use Rattle.wire.specs.Fault.{Reading, readAs, refused}
-use Rattle.messages.specs.Faults.{FieldNumbers}
-use Rattle.messages.specs.Message.{Message, made}
-use Rattle.messages.specs.Numbers.{refusalNumber, entries, padded}
+use Rattle.wire.specs.Lists.{entries}
 use Rattle.wire.specs.Parts.{Holds}
+use Rattle.wire.specs.Refusals.{refusalNumber}
 use Rattle.wire.specs.declared.Refusal.{Refusal}
-use Rattle.wire.specs.declared.Refusal.the-variants.{UnexpectedField, WrongWireType}
-use Rattle.messages.specs.declared.keys.Marks.{Marks}
-use Rattle.messages.specs.declared.schema.Form.{Form}
-use Rattle.messages.specs.declared.schema.Form.the-variants.{Unknown, Bytes, Provers, Verifiers, Bit}
+use Rattle.fields.specs.Schema.{Form, Unknown, Bytes, Provers, Verifiers, Bit, formIn, isUnknown}
+use Rattle.fields.specs.Faults.{FieldNumbers}
+use Rattle.fields.specs.Message.{Message, made}
+
+-- Which fields have been read, by their form: a message has one of each at most.
+pub record Marks : Type 0 where
+  pub bytes : Bool
+  pub provers : Bool
+  pub verifiers : Bool
+  pub bit : Bool
 
 -- Marks in their order.
 abbrev pub marks : (bytes provers verifiers bit : Bool) → Marks
 marks bytes provers verifiers bit = record { bytes = bytes; provers = provers; verifiers = verifiers; bit = bit }
 
--- Whether the field of a form has been read: a message has one of each at most.
+-- Whether the field of a form has been read.
 abbrev pub isRead : Form → Marks → Bool
 isRead Unknown read = false
 isRead Bytes read = read .bytes
@@ -51,11 +53,14 @@ marked form read =
 abbrev pub seenIn : (message : ℕ) → Marks → FieldNumbers
 seenIn message read number = isRead (formIn message number) read
 
--- Why a key does not fit.
-abbrev pub misfitOf : (message key : ℕ) → Marks → Refusal
-misfitOf message key read =
-    let form = formIn message (fieldNumber key) in
-    cond (isUnknown form || isRead form read) UnexpectedField WrongWireType
+-- Whether a field is unknown or has been read.
+abbrev pub isUnexpected : (message field : ℕ) → Marks → Bool
+isUnexpected message field read = isUnknown (formIn message field) || isRead (formIn message field) read
+
+-- Whether a row of the schema has a field of a form.
+abbrev pub contains : Form → List Form → Bool
+contains form [] = false
+contains form (f ∷ row) = isForm form f || contains form row
 
 -- What has been read: which fields, where the bytes lie, the bit, and how many suites.
 pub record Fields : Type 0 where
@@ -106,15 +111,9 @@ abbrev pub viewOf : ℕ → Fields → (provers verifiers : List ℕ) → Messag
 viewOf number f provers verifiers =
     made number (f .place) (f .size) (f .bit) (entries (f .provers) provers) (entries (f .verifiers) verifiers)
 
--- A list that has not been read holds zeros.
-abbrev pub Unread : Bool → List ℕ → Type 0
-Unread read list = read ≡ false → list ≡ padded []
-
--- A list holds the suites that were counted, and zeros until it is read.
+-- The lists hold the suites that were counted, and then zeros.
 abbrev pub Tidy : Fields → (provers verifiers : List ℕ) → Type 0
-Tidy f provers verifiers =
-    (Holds (f .provers) provers × Unread (f .read .provers) provers)
-    × (Holds (f .verifiers) verifiers × Unread (f .read .verifiers) verifiers)
+Tidy f provers verifiers = Holds (f .provers) provers × Holds (f .verifiers) verifiers
 
 -- How far a message has been read: the numbers of its fields, what they hold, and the place after them.
 pub record Stage : Type 0 where

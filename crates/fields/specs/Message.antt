@@ -5,11 +5,9 @@ use lib.ListN.{take}
 use Rattle.wire.specs.Varint.{Number, value, fault, numberAt, bitAt}
 use Rattle.wire.specs.Layout.{Block, block, faulty, blockAt, fieldNumber, fieldsFrom}
 use Rattle.wire.specs.Lists.{numberIn, suitesIn}
-use Rattle.messages.specs.Schema.{formIn}
 use Rattle.wire.specs.Fault.{Reading, judged}
-use Rattle.messages.specs.Faults.{faultsOf}
-use Rattle.messages.specs.declared.schema.Form.{Form}
-use Rattle.messages.specs.declared.schema.Form.the-variants.{Unknown, Bytes, Provers, Verifiers, Bit}
+use Rattle.fields.specs.Schema.{Form, Unknown, Bytes, Provers, Verifiers, Bit, formIn}
+use Rattle.fields.specs.Faults.{ofInner}
 
 -- A message: its number; where its token or payload lies in the lent bytes, and how long it is; its bit; its suites.
 pub record Message : Type 0 where
@@ -74,15 +72,6 @@ messageIn number bytes (block start size) =
     withFields message (fieldsFrom message start) (empty number)
 messageIn number bytes (faulty refusal) = empty number
 
--- The message by the outer key.
-abbrev pub messageBy : List ℕ → Number → Message
-messageBy bytes (value key next) = messageIn (fieldNumber key) bytes (blockAt bytes next)
-messageBy bytes (fault refusal) = empty 0
-
--- What lent bytes say if they show no fault.
-abbrev pub messageOf : List ℕ → Message
-messageOf bytes = messageBy bytes (numberAt bytes 0)
-
--- What lent bytes are read as.
-unfoldable pub readingOf : List ℕ → Reading Message
-readingOf bytes = judged (faultsOf bytes) (messageOf bytes)
+-- What the message is read as whose length stands at `place`. What follows it in the bytes is judged with it.
+unfoldable pub readingAt : (number : ℕ) (bytes : List ℕ) (place : ℕ) → Reading Message
+readingAt number bytes place = judged (ofInner number bytes place (blockAt bytes place)) (messageIn number bytes (blockAt bytes place))

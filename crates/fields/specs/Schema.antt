@@ -1,12 +1,17 @@
--- Request #101, the schema: the outer message holds one of nine messages, and each of them its fields. `Form` is declared in
--- src/schema.rt.
+-- Request #101, the schema: the outer message holds one of nine messages, and each of them its fields.
 use Prim.Native.Nat.{ℕ}
 use mathlib.Core.Bool.{Bool, true, false, _&&_, not, cond}
 use mathlib.Core.List.{List, [], _∷_}
 use lib.Dec.{eqb, leb}
 use lib.ListN.{getD}
-use Rattle.messages.specs.declared.schema.Form.{Form}
-use Rattle.messages.specs.declared.schema.Form.the-variants.{Unknown, Bytes, Provers, Verifiers, Bit}
+
+-- What a field holds: a token or payload, suites, or a bit.
+pub data Form : Type 0 where
+  Unknown : Form
+  Bytes : Form
+  Provers : Form
+  Verifiers : Form
+  Bit : Form
 
 -- The forms of each message's fields. Both lists count from 0, which is no message and no field.
 abbrev pub schema : List (List Form)

@@ -1,30 +1,30 @@
--- What the private functions that read fields answer. No public contract rests on this file.
+-- What the private functions answer. No public contract rests on this file.
 use mathlib.Core.Path.{_≡_}
 use Prim.Native.Nat.{ℕ, _+_}
-use mathlib.Core.Bool.{Bool, _||_}
+use mathlib.Core.Bool.{Bool, false}
 use mathlib.Core.List.{List, []}
-use lib.Dec.{eqb}
 use lib.ListN.{length}
 use Rattle.wire.specs.Varint.{value, numberAt}
-use Rattle.wire.specs.Layout.{blockAt, afterBlock, afterNumber, afterKey, fieldsFrom}
-use Rattle.messages.specs.Schema.{formIn}
+use Rattle.wire.specs.Layout.{block, blockAt, afterBlock, afterNumber, afterKey, fieldsFrom}
 use Rattle.wire.specs.Fault.{Reading, readAs, refused, judged}
-use Rattle.messages.specs.Faults.{noNumbers, adding, fieldOf, ofContent, ofField, ofFields}
-use Rattle.messages.specs.Message.{Message, made, empty, filled, withField, withFields}
-use Rattle.messages.specs.Numbers.{refusalNumber, entries}
+use Rattle.wire.specs.Lists.{entries}
 use Rattle.wire.specs.Parts.{Holds}
-use Rattle.messages.specs.Fields.{Fields, Step, Tidy, TidyStep, proceed, seenIn, stage, stepIn, stop, viewOf, withMark, withBytes, withBit, withProvers, withVerifiers}
-use Rattle.messages.specs.declared.keys.Marks.{Marks}
-use Rattle.messages.specs.declared.plain.Field as plain
-use Rattle.messages.specs.declared.plain.Field.the-variants as plain-field
-use Rattle.messages.specs.declared.plain.Plain.{Plain}
-use Rattle.messages.specs.declared.plain.Plain.the-variants as of-plain
-use Rattle.messages.specs.declared.hello.Field as hello
-use Rattle.messages.specs.declared.hello.Field.the-variants as hello-field
-use Rattle.messages.specs.declared.hello.Hello.{Hello}
-use Rattle.messages.specs.declared.hello.Hello.the-variants as of-hello
-use Rattle.messages.specs.declared.schema.Form.{Form}
-use Rattle.messages.specs.declared.schema.Form.the-variants.{Unknown, Bytes, Provers, Verifiers, Bit}
+use Rattle.wire.specs.Refusals.{refusalNumber}
+use Rattle.fields.specs.Schema.{Form, Unknown, Bytes, Provers, Verifiers, Bit, formIn}
+use Rattle.fields.specs.Faults.{noNumbers, adding, fieldOf, ofContent, ofField, ofFields, ofInner}
+use Rattle.fields.specs.Message.{Message, made, empty, filled, withField, withFields, messageIn}
+use Rattle.fields.specs.Contents.{CountsFit, contentsIn, proversAfter, verifiersAfter}
+use Rattle.fields.specs.Fields.{Fields, Marks, Step, Tidy, TidyStep, marks, proceed, seenIn, stage, stepIn, stop, viewOf, withMark, withBytes, withBit, withProvers, withVerifiers}
+use Rattle.fields.specs.declared.Contents.{Contents}
+use Rattle.fields.specs.declared.plain.Field as plain
+use Rattle.fields.specs.declared.plain.Field.the-variants as plain-field
+use Rattle.fields.specs.declared.plain.Plain.{Plain}
+use Rattle.fields.specs.declared.plain.Plain.the-variants as of-plain
+use Rattle.fields.specs.declared.hello.Field as hello
+use Rattle.fields.specs.declared.hello.Field.the-variants as hello-field
+use Rattle.fields.specs.declared.hello.Hello.{Hello}
+use Rattle.fields.specs.declared.hello.Hello.the-variants as of-hello
+use Rattle.fields.specs.declared.hello.Marks as hello-marks
 
 -- The place after what a field of a form holds.
 abbrev pub afterContent : Form → List ℕ → ℕ → ℕ
@@ -60,21 +60,13 @@ helloStep (hello-field.Provers count after) f = proceed (withProvers count f) af
 helloStep (hello-field.Verifiers count after) f = proceed (withVerifiers count f) after
 helloStep (hello-field.Fault refusal) f = stop refusal
 
--- What a field holds, whatever was read before it. Lists are written by their own fields alone.
+-- What a field of a message without lists holds, whatever was read before it.
 abbrev pub Content : Form → (bytes : List ℕ) (place : ℕ) → (Fields → Step) → Type 0
 Content form bytes place step = (f : Fields) (provers verifiers : List ℕ) → ContentStep form bytes place (withMark form f) provers verifiers (step f) provers verifiers
 
--- The same of the prover suites, which are read into a list.
-abbrev pub ProversContent : (bytes : List ℕ) (place : ℕ) → hello.Field → (list : List ℕ) → Type 0
-ProversContent bytes place r list = (f : Fields) (provers verifiers : List ℕ) → ContentStep Provers bytes place (withMark Provers f) provers verifiers (helloStep r f) list verifiers
-
--- The same of the verifier suites.
-abbrev pub VerifiersContent : (bytes : List ℕ) (place : ℕ) → hello.Field → (list : List ℕ) → Type 0
-VerifiersContent bytes place r list = (f : Fields) (provers verifiers : List ℕ) → ContentStep Verifiers bytes place (withMark Verifiers f) provers verifiers (helloStep r f) provers list
-
--- Whether a message below DATA has a field.
-abbrev pub hasPart : ℕ → Bool
-hasPart message = eqb message 4 || eqb message 6 || eqb message 7
+-- The marks of a message without lists.
+abbrev pub plainMarks : (bytes bit : Bool) → Marks
+plainMarks bytes bit = marks bytes false false bit
 
 -- One field of a message without lists, with the marks before it.
 abbrev pub PlainStep : (message : ℕ) (bytes : List ℕ) (place : ℕ) → Marks → plain.Field → Type 0
@@ -87,10 +79,14 @@ abbrev pub PlainKey : (message key : ℕ) (bytes : List ℕ) (behindKey : ℕ) �
 PlainKey message key bytes behindKey read r =
     (place : ℕ) → numberAt bytes place ≡ value key behindKey → PlainStep message bytes place read r
 
+-- The marks of a hello.
+abbrev pub helloMarks : hello-marks.Marks → Marks
+helloMarks read = marks (read .token) (read .provers) (read .verifiers) false
+
 -- One field of a hello.
-abbrev pub HelloStep : (bytes : List ℕ) (place : ℕ) → Marks → (provers verifiers : List ℕ) → hello.Field → (provers′ verifiers′ : List ℕ) → Type 0
+abbrev pub HelloStep : (bytes : List ℕ) (place : ℕ) → hello-marks.Marks → (provers verifiers : List ℕ) → hello.Field → (provers′ verifiers′ : List ℕ) → Type 0
 HelloStep bytes place read provers verifiers r provers′ verifiers′ =
-    (f : Fields) → f .read ≡ read → FieldStep 1 bytes place f provers verifiers (helloStep r f) provers′ verifiers′
+    (f : Fields) → f .read ≡ helloMarks read → FieldStep 1 bytes place f provers verifiers (helloStep r f) provers′ verifiers′
 
 -- The fields of a message from `start` to its end.
 unfoldable pub fieldsOf : (number : ℕ) (bytes : List ℕ) (start : ℕ) → Reading Message
@@ -112,3 +108,19 @@ helloIn (of-hello.Fault refusal) provers verifiers = refused (refusalNumber refu
 abbrev pub HelloCounts : Hello → (provers verifiers : List ℕ) → Type 0
 HelloCounts (of-hello.Read held) provers verifiers = Holds (held .provers) provers × Holds (held .verifiers) verifiers
 HelloCounts (of-hello.Fault refusal) provers verifiers = Unit {0}
+
+-- The fields of a message that stands in lent bytes, with what follows it.
+unfoldable pub innerOf : (number : ℕ) (bytes : List ℕ) (start size : ℕ) → Reading Message
+innerOf number bytes start size =
+    judged (ofInner number bytes 0 (block start size)) (messageIn number bytes (block start size))
+
+-- What the contract of `read_at` promises of contents and lists, before and after.
+pub record Reads (r : Contents) (reading : Reading Message) (provers verifiers provers′ verifiers′ : List ℕ) : Type 0 where
+  pub reads : contentsIn r provers′ verifiers′ ≡ reading
+  pub provers-left : provers′ ≡ proversAfter reading provers
+  pub verifiers-left : verifiers′ ≡ verifiersAfter reading verifiers
+  pub counts : CountsFit r
+
+-- The same of a message without lists, which leaves both as they are.
+abbrev pub ReadsPlain : Contents → Reading Message → Type 0
+ReadsPlain r reading = (provers verifiers : List ℕ) → Reads r reading provers verifiers provers verifiers

@@ -1,15 +1,13 @@
 // The fields of a HELLO.
 ghost use mathlib.Core.Path.{_≡_};
 ghost use mathlib.Core.List.{[]};
-ghost use Prim.Native.Nat.{_≤_};
+ghost use Prim.Native.Nat.{_+_, _≤_};
 ghost use lib.ListN.{length};
-ghost use Rattle.messages.specs.Numbers.{padded};
-ghost use Rattle.messages.specs.Fields.{Unread};
-ghost use Rattle.messages.specs.Steps.{Content, HelloCounts, HelloStep, ProversContent, VerifiersContent, fieldsOf, helloIn, helloStep};
-ghost use Rattle.messages.specs.declared.schema.Form.the-variants as form;
+ghost use Rattle.wire.specs.Lists.{padded};
+ghost use Rattle.fields.specs.Steps.{HelloCounts, HelloStep, Reads, fieldsOf, helloIn, innerOf};
+use crate::Contents;
+use crate::Held;
 use crate::keys;
-use crate::keys::Marks;
-use crate::keys::NOTHING_READ;
 use crate::keys::misfit;
 use crate::schema;
 use wire::Block;
@@ -28,13 +26,18 @@ pub enum Field {
     Fault(Refusal),
 }
 
-// What all fields hold: where the token lies, and how many suites each list has.
-pub struct Held {
-    pub place: usize,
-    pub size: usize,
-    pub provers: usize,
-    pub verifiers: usize,
+// Which fields have been read.
+pub struct Marks {
+    pub token: bool,
+    pub provers: bool,
+    pub verifiers: bool,
 }
+
+const NOTHING_READ: Marks = Marks {
+    token: false,
+    provers: false,
+    verifiers: false,
+};
 
 const NOTHING_HELD: Held = Held {
     place: 0,
@@ -48,7 +51,7 @@ pub enum Hello {
     Fault(Refusal),
 }
 
-// One field: its key, and then what the key announces. A list that has not been read holds zeros.
+// One field: its key, and then what the key announces.
 fn next_field(
     bytes: &[u8],
     place: usize,
@@ -56,14 +59,13 @@ fn next_field(
     provers: &mut [u32; 16],
     verifiers: &mut [u32; 16],
 ) -> Field
-    requires { ⌜ Unread (read .provers) (now provers) × Unread (read .verifiers) (now verifiers) ⌝ }
     ensures { λ r. ⌜ HelloStep (now (bytes .entry)) place read (now (provers .entry)) (now (verifiers .entry)) r (now (provers .exit)) (now (verifiers .exit)) ⌝ }
 {
     let key = number(bytes, place);
     match key {
         Varint::Fault(refusal) => Field::Fault(refusal),
         Varint::Number(key, next) => {
-            if (key == keys::BYTES) & !read.bytes {
+            if (key == keys::BYTES) & !read.token {
                 let part = block_at(bytes, next);
                 return match part {
                     Block::Fault(refusal) => Field::Fault(refusal),
@@ -84,19 +86,22 @@ fn next_field(
                     Packed::Suites(count, after) => Field::Verifiers(count, after),
                 };
             }
-            Field::Fault(misfit(schema::HELLO, key, read))
+            let field = key / schema::WIRE_TYPES;
+            let expected = ((field == schema::BYTES) & !read.token)
+                | ((field == schema::PROVERS) & !read.provers)
+                | ((field == schema::VERIFIERS) & !read.verifiers);
+            Field::Fault(misfit(expected))
         }
     }
 }
 
-// All fields from `start` to the end of the bytes.
-pub(crate) fn read_hello(
+// All fields from `start` to the end of the bytes, into lists that hold zeros.
+fn read_hello(
     bytes: &[u8],
     start: usize,
     provers: &mut [u32; 16],
     verifiers: &mut [u32; 16],
 ) -> Hello
-    requires { ⌜ start ≤ length (now bytes) ⌝ }
     requires { ⌜ (now provers ≡ padded []) × (now verifiers ≡ padded []) ⌝ }
     ensures { λ r. ⌜ helloIn r (now (provers .exit)) (now (verifiers .exit)) ≡ fieldsOf 1 (now (bytes .entry)) start ⌝ }
     ensures { λ r. ⌜ HelloCounts r (now (provers .exit)) (now (verifiers .exit)) ⌝ }
@@ -109,7 +114,7 @@ pub(crate) fn read_hello(
         match field {
             Field::Fault(refusal) => return Hello::Fault(refusal),
             Field::Token(place, size) => {
-                read.bytes = true;
+                read.token = true;
                 held.place = place;
                 held.size = size;
                 at = place + size;
@@ -127,4 +132,37 @@ pub(crate) fn read_hello(
         }
     }
     Hello::Read(held)
+}
+
+// A HELLO in lent bytes. Any byte after it is refused.
+pub(crate) fn hello_in(
+    bytes: &[u8],
+    start: usize,
+    size: usize,
+    provers: &mut [u32; 16],
+    verifiers: &mut [u32; 16],
+) -> Contents
+    requires { ⌜ start + size ≤ length (now bytes) ⌝ }
+    ensures { λ r. ⌜ Reads r (innerOf 1 (now (bytes .entry)) start size) (now (provers .entry)) (now (verifiers .entry)) (now (provers .exit)) (now (verifiers .exit)) ⌝ }
+{
+    let end = start + size;
+    let mut peer_provers = [0; 16];
+    let mut peer_verifiers = [0; 16];
+    let read = read_hello(
+        &bytes[..end],
+        start,
+        &mut peer_provers,
+        &mut peer_verifiers,
+    );
+    match read {
+        Hello::Fault(refusal) => Contents::Fault(refusal),
+        Hello::Read(held) => {
+            if end < bytes.len() {
+                return Contents::Fault(Refusal::UnexpectedField);
+            }
+            *provers = peer_provers;
+            *verifiers = peer_verifiers;
+            Contents::Hello(held)
+        }
+    }
 }

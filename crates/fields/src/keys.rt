@@ -1,57 +1,29 @@
 // The keys that fit, and why another does not.
 ghost use mathlib.Core.Path.{_≡_};
-ghost use Rattle.messages.specs.Fields.{isUnexpected, misfitOf};
-use crate::schema::Form;
+ghost use mathlib.Core.Bool.{cond};
+ghost use Rattle.wire.specs.declared.Refusal.the-variants as refusal;
+use crate::schema;
 use crate::schema::LENGTH_DELIMITED;
 use crate::schema::VARINT;
 use crate::schema::WIRE_TYPES;
-use crate::schema::form_in;
 use wire::Refusal;
 
-pub const BYTES: u32 = WIRE_TYPES + LENGTH_DELIMITED;
+pub const BYTES: u32 = schema::BYTES * WIRE_TYPES + LENGTH_DELIMITED;
 
-pub const PROVERS: u32 = 2 * WIRE_TYPES + LENGTH_DELIMITED;
+pub const PROVERS: u32 = schema::PROVERS * WIRE_TYPES + LENGTH_DELIMITED;
 
-pub const VERIFIERS: u32 = 3 * WIRE_TYPES + LENGTH_DELIMITED;
+pub const VERIFIERS: u32 = schema::VERIFIERS * WIRE_TYPES + LENGTH_DELIMITED;
 
-pub const DATA_BIT: u32 = 2 * WIRE_TYPES + VARINT;
+pub const DATA_BIT: u32 = schema::DATA_BIT * WIRE_TYPES + VARINT;
 
-pub const ACK_BIT: u32 = WIRE_TYPES + VARINT;
+pub const ACK_BIT: u32 = schema::ACK_BIT * WIRE_TYPES + VARINT;
 
-// Which fields have been read, by their form: a message has one of each at most.
-pub struct Marks {
-    pub bytes: bool,
-    pub provers: bool,
-    pub verifiers: bool,
-    pub bit: bool,
-}
-
-pub const NOTHING_READ: Marks = Marks {
-    bytes: false,
-    provers: false,
-    verifiers: false,
-    bit: false,
-};
-
-// Whether a field of this form is unknown or has been read.
-fn is_unexpected(form: Form, read: Marks) -> bool
-    ensures { λ r. ⌜ r ≡ isUnexpected form read ⌝ }
+// Why a key does not fit: its field is known and has not been read, so that the wire type is wrong; or it is not expected.
+pub(crate) fn misfit(expected: bool) -> Refusal
+    ensures { λ r. ⌜ r ≡ cond expected refusal.WrongWireType refusal.UnexpectedField ⌝ }
 {
-    match form {
-        Form::Unknown => true,
-        Form::Bytes => read.bytes,
-        Form::Provers => read.provers,
-        Form::Verifiers => read.verifiers,
-        Form::Bit => read.bit,
+    if expected {
+        return Refusal::WrongWireType;
     }
-}
-
-// Why a key does not fit: its field is unknown or has been read, or else its wire type is wrong.
-pub(crate) fn misfit(message: u32, key: u32, read: Marks) -> Refusal
-    ensures { λ r. ⌜ r ≡ misfitOf message key read ⌝ }
-{
-    if is_unexpected(form_in(message, key / WIRE_TYPES), read) {
-        return Refusal::UnexpectedField;
-    }
-    Refusal::WrongWireType
+    Refusal::UnexpectedField
 }

@@ -1,13 +1,13 @@
 // The fields of a message without lists: every one but HELLO.
 ghost use mathlib.Core.Path.{_≡_};
-ghost use Prim.Native.Nat.{_≤_};
+ghost use mathlib.Core.Bool.{Bool};
+ghost use Prim.Native.Nat.{_+_, _<_, _≤_};
 ghost use lib.ListN.{length};
-ghost use Rattle.messages.specs.Steps.{Content, PlainKey, PlainStep, fieldsOf, hasPart, plainIn, plainStep};
-ghost use Rattle.messages.specs.declared.schema.Form.the-variants as form;
+ghost use Rattle.fields.specs.Schema.{Bit, Bytes};
+ghost use Rattle.fields.specs.Steps.{Content, PlainKey, PlainStep, ReadsPlain, fieldsOf, innerOf, plainIn, plainMarks, plainStep};
+use crate::Contents;
 use crate::Span;
 use crate::keys;
-use crate::keys::Marks;
-use crate::keys::NOTHING_READ;
 use crate::keys::misfit;
 use crate::schema;
 use wire::Block;
@@ -33,6 +33,7 @@ pub enum Plain {
 const NO_PART: Span = Span { place: 0, size: 0 };
 
 fn bytes_at(bytes: &[u8], place: usize) -> Field
+    ensures { λ r. ⌜ Content Bytes (now (bytes .entry)) place (plainStep r) ⌝ }
 {
     let part = block_at(bytes, place);
     match part {
@@ -42,6 +43,7 @@ fn bytes_at(bytes: &[u8], place: usize) -> Field
 }
 
 fn bit_at(bytes: &[u8], place: usize) -> Field
+    ensures { λ r. ⌜ Content Bit (now (bytes .entry)) place (plainStep r) ⌝ }
 {
     let varint = bit(bytes, place);
     match varint {
@@ -50,21 +52,22 @@ fn bit_at(bytes: &[u8], place: usize) -> Field
     }
 }
 
-// Whether a message below DATA has a field, which is then bytes.
-fn has_part(message: u32) -> bool
+// A field of a message below DATA: three of these have bytes, the others no field.
+fn part_field(message: u32, key: u32, bytes: &[u8], next: usize, bytes_read: bool) -> Field
+    requires { ⌜ (message ≡ 1 → ⊥) × (message < 8) ⌝ }
+    ensures { λ r. ⌜ ((bit : Bool) → PlainKey message key (now (bytes .entry)) next (plainMarks «bytes_read» bit) r) ⌝ }
 {
-    (message == schema::DAT) | (message == schema::RA_PROVER) | (message == schema::RA_VERIFIER)
-}
-
-fn part_field(message: u32, key: u32, bytes: &[u8], next: usize, bytes_read: bool, bit_read: bool) -> Field
-{
-    if (key == keys::BYTES) & !bytes_read & has_part(message) {
+    let has_part =
+        (message == schema::DAT) | (message == schema::RA_PROVER) | (message == schema::RA_VERIFIER);
+    if has_part & (key == keys::BYTES) & !bytes_read {
         return bytes_at(bytes, next);
     }
-    Field::Fault(misfit(message, key, Marks { bytes: bytes_read, provers: false, verifiers: false, bit: bit_read }))
+    let field = key / schema::WIRE_TYPES;
+    Field::Fault(misfit(has_part & (field == schema::BYTES) & !bytes_read))
 }
 
 fn data_field(key: u32, bytes: &[u8], next: usize, bytes_read: bool, bit_read: bool) -> Field
+    ensures { λ r. ⌜ PlainKey 8 key (now (bytes .entry)) next (plainMarks «bytes_read» «bit_read») r ⌝ }
 {
     if (key == keys::BYTES) & !bytes_read {
         return bytes_at(bytes, next);
@@ -72,38 +75,50 @@ fn data_field(key: u32, bytes: &[u8], next: usize, bytes_read: bool, bit_read: b
     if (key == keys::DATA_BIT) & !bit_read {
         return bit_at(bytes, next);
     }
-    Field::Fault(misfit(schema::DATA, key, Marks { bytes: bytes_read, provers: false, verifiers: false, bit: bit_read }))
+    let field = key / schema::WIRE_TYPES;
+    let expected =
+        ((field == schema::BYTES) & !bytes_read) | ((field == schema::DATA_BIT) & !bit_read);
+    Field::Fault(misfit(expected))
 }
 
-fn ack_field(key: u32, bytes: &[u8], next: usize, bytes_read: bool, bit_read: bool) -> Field
+// A field of a message above DATA: ACK has a bit, and no other number is a message's.
+fn ack_field(message: u32, key: u32, bytes: &[u8], next: usize, bit_read: bool) -> Field
+    requires { ⌜ 9 ≤ message ⌝ }
+    ensures { λ r. ⌜ ((bytes-read : Bool) → PlainKey message key (now (bytes .entry)) next (plainMarks bytes-read «bit_read») r) ⌝ }
 {
-    if (key == keys::ACK_BIT) & !bit_read {
+    let is_ack = message == schema::ACK;
+    if is_ack & (key == keys::ACK_BIT) & !bit_read {
         return bit_at(bytes, next);
     }
-    Field::Fault(misfit(schema::ACK, key, Marks { bytes: bytes_read, provers: false, verifiers: false, bit: bit_read }))
+    let field = key / schema::WIRE_TYPES;
+    Field::Fault(misfit(is_ack & (field == schema::ACK_BIT) & !bit_read))
 }
 
 // One field: its key, and then what the key announces.
 fn next_field(message: u32, bytes: &[u8], place: usize, bytes_read: bool, bit_read: bool) -> Field
+    requires { ⌜ (message ≡ 1 → ⊥) ⌝ }
+    ensures { λ r. ⌜ PlainStep message (now (bytes .entry)) place (plainMarks «bytes_read» «bit_read») r ⌝ }
 {
     let key = number(bytes, place);
     match key {
         Varint::Fault(refusal) => Field::Fault(refusal),
         Varint::Number(key, next) => {
             if message < schema::DATA {
-                return part_field(message, key, bytes, next, bytes_read, bit_read);
+                return part_field(message, key, bytes, next, bytes_read);
             }
             if message == schema::DATA {
                 return data_field(key, bytes, next, bytes_read, bit_read);
             }
-            ack_field(key, bytes, next, bytes_read, bit_read)
+            ack_field(message, key, bytes, next, bit_read)
         }
     }
 }
 
 // All fields from `start` to the end of the bytes. Bytes and bit are kept apart: a struct of both would have padding, which
 // is copied in every turn.
-pub(crate) fn read_plain(message: u32, bytes: &[u8], start: usize) -> Plain
+fn read_plain(message: u32, bytes: &[u8], start: usize) -> Plain
+    requires { ⌜ (message ≡ 1 → ⊥) ⌝ }
+    ensures { λ r. ⌜ plainIn message r ≡ fieldsOf message (now (bytes .entry)) start ⌝ }
 {
     let mut bytes_read = false;
     let mut bit_read = false;
@@ -127,4 +142,23 @@ pub(crate) fn read_plain(message: u32, bytes: &[u8], start: usize) -> Plain
         }
     }
     Plain::Read { part, bit }
+}
+
+// A message without lists in lent bytes. Any byte after it is refused.
+pub(crate) fn plain_in(message: u32, bytes: &[u8], start: usize, size: usize) -> Contents
+    requires { ⌜ (message ≡ 1 → ⊥) ⌝ }
+    requires { ⌜ start + size ≤ length (now bytes) ⌝ }
+    ensures { λ r. ⌜ ReadsPlain r (innerOf message (now (bytes .entry)) start size) ⌝ }
+{
+    let end = start + size;
+    let read = read_plain(message, &bytes[..end], start);
+    match read {
+        Plain::Fault(refusal) => Contents::Fault(refusal),
+        Plain::Read { part, bit } => {
+            if end < bytes.len() {
+                return Contents::Fault(Refusal::UnexpectedField);
+            }
+            Contents::Plain(message, part, bit)
+        }
+    }
 }

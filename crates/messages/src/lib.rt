@@ -7,21 +7,15 @@ ghost use Rattle.messages.specs.Numbers.{CountsFit, partOf, proversAfter
 ghost use Rattle.messages.specs.Whole.{MessageAs};
 
 mod flat;
-mod hello;
-mod keys;
-mod plain;
-pub mod schema;
+mod outer;
 
 pub use crate::flat::FlatMessage;
 pub use crate::flat::read_flat;
+use crate::outer::contents_of;
+use fields::Contents;
+pub use fields::Span;
+pub use fields::schema;
 use wire::Refusal;
-use wire::refusals;
-
-// Where bytes lie in those that were lent. An absent field lies at 0 and has none.
-pub struct Span {
-    pub place: usize,
-    pub size: usize,
-}
 
 // A message, or why there is none. The suites of a hello stand in the lists that the caller lends.
 pub enum Message {
@@ -44,46 +38,33 @@ pub enum Message {
     Refused(Refusal),
 }
 
-// A refusal by its number, one of the five.
-fn refusal_of(number: u32) -> Refusal
-    ensures { λ r. ⌜ ((21 ≤ number) × (number ≤ 25) → refusalNumber r ≡ number) ⌝ }
+// The enum of what a message holds.
+fn message_of(contents: Contents) -> Message
+    ensures { λ r. ⌜ MessageAs contents r ⌝ }
 {
-    match number {
-        refusals::ENDS_TOO_SOON => Refusal::EndsTooSoon,
-        refusals::UNEXPECTED_FIELD => Refusal::UnexpectedField,
-        refusals::WRONG_WIRE_TYPE => Refusal::WrongWireType,
-        refusals::NUMBER_TOO_LARGE => Refusal::NumberTooLarge,
-        _ => Refusal::TooManySuites,
-    }
-}
-
-// The enum of a message given as numbers.
-fn message_of(message: FlatMessage) -> Message
-    ensures { λ r. ⌜ MessageAs message r ⌝ }
-{
-    let number = message.number;
-    let bytes = Span {
-        place: message.place,
-        size: message.size,
-    };
-    match number {
-        schema::HELLO => Message::Hello {
-            token: bytes,
-            provers: message.provers,
-            verifiers: message.verifiers,
+    match contents {
+        Contents::Hello(held) => Message::Hello {
+            token: Span {
+                place: held.place,
+                size: held.size,
+            },
+            provers: held.provers,
+            verifiers: held.verifiers,
         },
-        schema::CLOSE => Message::Close,
-        schema::DAT_EXPIRED => Message::DatExpired,
-        schema::DAT => Message::Dat(bytes),
-        schema::RE_RA => Message::ReRa,
-        schema::RA_PROVER => Message::RaProver(bytes),
-        schema::RA_VERIFIER => Message::RaVerifier(bytes),
-        schema::DATA => Message::Data {
-            payload: bytes,
-            bit: message.bit,
+        Contents::Plain(number, bytes, bit) => match number {
+            schema::CLOSE => Message::Close,
+            schema::DAT_EXPIRED => Message::DatExpired,
+            schema::DAT => Message::Dat(bytes),
+            schema::RE_RA => Message::ReRa,
+            schema::RA_PROVER => Message::RaProver(bytes),
+            schema::RA_VERIFIER => Message::RaVerifier(bytes),
+            schema::DATA => Message::Data {
+                payload: bytes,
+                bit,
+            },
+            _ => Message::Ack(bit),
         },
-        schema::ACK => Message::Ack(message.bit),
-        _ => Message::Refused(refusal_of(message.refusal)),
+        Contents::Fault(refusal) => Message::Refused(refusal),
     }
 }
 
@@ -94,7 +75,7 @@ pub fn read(bytes: &[u8], provers: &mut [u32; 16], verifiers: &mut [u32; 16]) ->
     ensures { λ _. ⌜ now (verifiers .exit) ≡ verifiersAfter (readingOf (now (bytes .entry))) (now (verifiers .entry)) ⌝ }
     ensures { λ r. ⌜ CountsFit r ⌝ }
 {
-    message_of(read_flat(bytes, provers, verifiers))
+    message_of(contents_of(bytes, provers, verifiers))
 }
 
 // The token or payload of a message: a part of the bytes that it was read from.

@@ -1,22 +1,22 @@
--- `wire::hello::read_hello` meets its contract.
+-- `fields::hello::read_hello` meets its contract.
 use mathlib.Core.Path.{_≡_, refl, ap, subst}
 use mathlib.Core.List.{List}
 use Prim.Native.Nat.{ℕ, _-_, _<_, _≤_}
 use native.Mathlib.Omega.{arith}
 use lib.ListN.{length}
 use borrow.Author.Needs.{needs}
-use Rattle.messages.specs.Fields.{Fields, Step, Tidy, TidyStep, fields, proceed}
-use Rattle.messages.specs.Steps.{helloStep}
-use Rattle.messages.specs.declared.hello.Field.{Field}
-use Rattle.messages.specs.declared.hello.Held.{Held}
-use Rattle.messages.specs.declared.keys.Marks.{Marks}
-use Rattle.messages.proofs.Onward.{Onward, begins, ends, stops, further, goes-on, tidy-first}
-use Rattle.messages.proofs.hello.read_hello.Statement.{statement}
-use Rattle.messages.proofs.hello.read_hello.Tie as tie
+use Rattle.fields.specs.Fields.{Fields, Step, Tidy, TidyStep, fields, proceed}
+use Rattle.fields.specs.Steps.{helloMarks, helloStep}
+use Rattle.fields.specs.declared.hello.Field.{Field}
+use Rattle.fields.specs.declared.Held.{Held}
+use Rattle.fields.specs.declared.hello.Marks.{Marks}
+use Rattle.fields.proofs.Onward.{Onward, begins, ends, stops, further, goes-on, tidy-first}
+use Rattle.fields.proofs.hello.read_hello.Statement.{statement}
+use Rattle.fields.proofs.hello.read_hello.Tie as tie
 
 -- What the locals hold.
 abbrev state : Marks → Held → Fields
-state read held = fields read (held .place) (held .size) 0 (held .provers) (held .verifiers)
+state read held = fields (helloMarks read) (held .place) (held .size) 0 (held .provers) (held .verifiers)
 
 abbrev Inv-loop : tie.InvT-loop
 Inv-loop bytes start provers₀ verifiers₀ read₀ held₀ at₀ provers verifiers read held at =
@@ -28,7 +28,7 @@ abbrev μ-loop : tie.MeasureT-loop
 loop-holds : tie.Need-loop-holds Inv-loop μ-loop
 loop-holds c =
     let a = c .before .args in
-    (begins 1 (a .bytes .now) (a .start) (a .provers .now) (a .verifiers .now) (c .before .pre .0), tidy-first (a .provers .now) (a .verifiers .now) (c .before .pre .1 .0) (c .before .pre .1 .1))
+    (begins 1 (a .bytes .now) (a .start) (a .provers .now) (a .verifiers .now), tidy-first (a .provers .now) (a .verifiers .now) (c .before .pre .0) (c .before .pre .1))
 
 -- The fields before the one that is read, and the lists after it.
 abbrev before : (c : tie.After-next-field Inv-loop μ-loop) → Fields
@@ -92,7 +92,7 @@ returns-2 : tie.Need-returns-2 Inv-loop μ-loop
 returns-2 c =
     let l = c .before .loop in
     let t = l .inv .1 in
-    (ends _ _ _ (state (l .read) (l .held)) _ _ _ (l .inv .0) (c .«loop-test» .left), (t .0 .0, t .1 .0))
+    (ends _ _ _ (state (l .read) (l .held)) _ _ _ (l .inv .0) (c .«loop-test» .left), t)
 
 pub read-hello-spec : {M : Type 1} → statement M
 read-hello-spec =
@@ -101,7 +101,7 @@ read-hello-spec =
     Inv-loop
     μ-loop
     loop-holds
-    (λ c κs. let t = c .before .before .before .loop .inv .1 in (t .0 .1, t .1 .1))
+    (λ c κs. search needs)
     (λ c. search needs)
     returns
     (λ c. search needs)

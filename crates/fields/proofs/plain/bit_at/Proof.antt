@@ -1,12 +1,12 @@
--- `wire::plain::bit_at` meets its contract.
+-- `fields::plain::bit_at` meets its contract.
 use mathlib.Core.Path.{sym, ap, _∙_}
 use borrow.Author.Needs.{needs}
-use Rattle.messages.specs.Faults.{ofNumber}
+use Rattle.wire.specs.Lists.{ofNumber}
 use Rattle.wire.specs.Parts.{numberOf}
-use Rattle.messages.specs.declared.schema.Form.the-variants.{Bit}
-use Rattle.messages.proofs.Contents.{content-faulty, bit-read}
-use Rattle.messages.proofs.plain.bit_at.Statement.{statement}
-use Rattle.messages.proofs.plain.bit_at.Tie as tie
+use Rattle.fields.specs.Schema.{Bit}
+use Rattle.fields.proofs.Content.{content-faulty, bit-read}
+use Rattle.fields.proofs.plain.bit_at.Statement.{statement}
+use Rattle.fields.proofs.plain.bit_at.Tie as tie
 
 returns : tie.Need-returns
 returns c =

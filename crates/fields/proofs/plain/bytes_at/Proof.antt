@@ -1,12 +1,12 @@
--- `wire::plain::bytes_at` meets its contract.
+-- `fields::plain::bytes_at` meets its contract.
 use mathlib.Core.Path.{sym, ap, _∙_}
 use borrow.Author.Needs.{needs}
-use Rattle.messages.specs.Faults.{ofBytes}
+use Rattle.fields.specs.Faults.{ofBytes}
 use Rattle.wire.specs.Parts.{blockOf}
-use Rattle.messages.specs.declared.schema.Form.the-variants.{Bytes}
-use Rattle.messages.proofs.Contents.{content-faulty, bytes-read}
-use Rattle.messages.proofs.plain.bytes_at.Statement.{statement}
-use Rattle.messages.proofs.plain.bytes_at.Tie as tie
+use Rattle.fields.specs.Schema.{Bytes}
+use Rattle.fields.proofs.Content.{content-faulty, bytes-read}
+use Rattle.fields.proofs.plain.bytes_at.Statement.{statement}
+use Rattle.fields.proofs.plain.bytes_at.Tie as tie
 
 returns : tie.Need-returns
 returns c =

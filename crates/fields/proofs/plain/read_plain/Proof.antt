@@ -1,38 +1,38 @@
--- `wire::plain::read_plain` meets its contract.
+-- `fields::plain::read_plain` meets its contract.
 use mathlib.Core.Path.{_≡_, refl, ap}
+use mathlib.Core.Bool.{Bool}
 use mathlib.Core.List.{[]}
 use Prim.Native.Nat.{ℕ, _-_, _<_, _≤_}
 use native.Mathlib.Omega.{arith}
 use lib.ListN.{length}
 use borrow.Author.Needs.{needs}
-use Rattle.messages.specs.Fields.{Fields, fields, proceed}
-use Rattle.messages.specs.Steps.{plainStep}
-use Rattle.messages.specs.declared.Span.{Span}
-use Rattle.messages.specs.declared.keys.Marks.{Marks}
-use Rattle.messages.specs.declared.plain.Field.{Field}
-use Rattle.messages.proofs.Onward.{Onward, begins, ends, stops, further, goes-on}
-use Rattle.messages.proofs.plain.read_plain.Statement.{statement}
-use Rattle.messages.proofs.plain.read_plain.Tie as tie
+use Rattle.fields.specs.Fields.{Fields, fields, proceed}
+use Rattle.fields.specs.Steps.{plainMarks, plainStep}
+use Rattle.fields.specs.declared.Span.{Span}
+use Rattle.fields.specs.declared.plain.Field.{Field}
+use Rattle.fields.proofs.Onward.{Onward, begins, ends, stops, further, goes-on}
+use Rattle.fields.proofs.plain.read_plain.Statement.{statement}
+use Rattle.fields.proofs.plain.read_plain.Tie as tie
 
 -- What the locals hold.
-abbrev state : Marks → Span → ℕ → Fields
-state read part bit = fields read (part .place) (part .size) bit 0 0
+abbrev state : (bytes-read bit-read : Bool) → Span → ℕ → Fields
+state bytes-read bit-read part bit = fields (plainMarks bytes-read bit-read) (part .place) (part .size) bit 0 0
 
 abbrev Inv-loop : tie.InvT-loop
-Inv-loop message bytes start read₀ part₀ bit₀ at₀ read part bit at =
-    Onward message bytes start (state read part bit) [] [] at
+Inv-loop message bytes start bytes-read₀ bit-read₀ part₀ bit₀ at₀ bytes-read bit-read part bit at =
+    Onward message bytes start (state bytes-read bit-read part bit) [] [] at
 
 abbrev μ-loop : tie.MeasureT-loop
-μ-loop message bytes start read₀ part₀ bit₀ at₀ read part bit at = length bytes - at
+μ-loop message bytes start bytes-read₀ bit-read₀ part₀ bit₀ at₀ bytes-read bit-read part bit at = length bytes - at
 
 loop-holds : tie.Need-loop-holds Inv-loop μ-loop
 loop-holds c =
     let a = c .before .args in
-    begins (a .message) (a .bytes .now) (a .start) [] [] (c .before .pre .1)
+    begins (a .message) (a .bytes .now) (a .start) [] []
 
 -- The fields before the one that is read.
 abbrev before : (c : tie.After-next-field Inv-loop μ-loop) → Fields
-before c = let l = c .before .before .loop in state (l .read) (l .part) (l .bit)
+before c = let l = c .before .before .loop in state (l .«bytes-read») (l .«bit-read») (l .part) (l .bit)
 
 stepped : (c : tie.After-next-field Inv-loop μ-loop) (r : Field) → c .«next-field» .result ≡ r → plainStep (c .«next-field» .result) (before c) ≡ plainStep r (before c)
 stepped c r e = ap (λ (q : Field). plainStep q (before c)) e
@@ -78,7 +78,7 @@ loop-again-2 c = let n = c .before .before .before in again n _ _ (stepped n _ (
 returns-2 : tie.Need-returns-2 Inv-loop μ-loop
 returns-2 c =
     let l = c .before .loop in
-    ends _ _ _ (state (l .read) (l .part) (l .bit)) [] [] _ (l .inv) (c .«loop-test» .left)
+    ends _ _ _ (state (l .«bytes-read») (l .«bit-read») (l .part) (l .bit)) [] [] _ (l .inv) (c .«loop-test» .left)
 
 pub read-plain-spec : {M : Type 1} → statement M
 read-plain-spec =

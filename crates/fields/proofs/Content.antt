@@ -7,19 +7,18 @@ use lib.Dec.{ltb}
 use Rattle.wire.specs.Varint.{Number, value, fault, numberAt, asBit, bitAt}
 use Rattle.wire.specs.Layout.{block, blockAt, afterBlock}
 use Rattle.wire.specs.Fault.{at, leftmost, readAs, refused, judged}
-use Rattle.messages.specs.Faults.{ofContent, ofList}
-use Rattle.messages.specs.Message.{made, suitesIn}
-use Rattle.messages.specs.Numbers.{refusalNumber, entries}
-use Rattle.wire.specs.Parts.{Holds, Listed, PackedCounts, listed, packedAt, packedOf}
-use Rattle.messages.specs.Fields.{Fields, marked, proceed, seenIn, stage, stop, withMark, withBytes, withBit, withProvers, withVerifiers}
-use Rattle.messages.specs.Steps.{ContentStep}
+use Rattle.wire.specs.Lists.{ofList, suitesIn, entries}
+use Rattle.wire.specs.Refusals.{refusalNumber}
+use Rattle.wire.specs.Parts.{Holds, Listed, Stored, listed, packedAt, packedOf}
 use Rattle.wire.specs.declared.Refusal.{Refusal}
 use Rattle.wire.specs.declared.list.Packed.{Packed}
 use Rattle.wire.specs.declared.list.Packed.the-variants as packed
-use Rattle.messages.specs.declared.schema.Form.{Form}
-use Rattle.messages.specs.declared.schema.Form.the-variants.{Bytes, Provers, Verifiers, Bit}
-use Rattle.messages.proofs.Forms.{absurd-bool}
 use Rattle.wire.proofs.Order.{same-refused, same-read}
+use Rattle.fields.specs.Schema.{Form, Bytes, Provers, Verifiers, Bit}
+use Rattle.fields.specs.Faults.{ofContent}
+use Rattle.fields.specs.Message.{made}
+use Rattle.fields.specs.Fields.{Fields, marked, proceed, seenIn, stage, stop, withMark, withBytes, withBit, withProvers, withVerifiers}
+use Rattle.fields.specs.Steps.{ContentStep}
 
 abbrev is-fault : Number → Type 0
 is-fault (value number next) = ⊥
@@ -53,7 +52,7 @@ module _ (bytes : List ℕ) (place : ℕ) (f : Fields) (provers verifiers : List
   bit-read bit after e = record { reads = λ number. rw (e, as-number (numberAt bytes place) bit after e); tidies = λ t. t }
 
   -- Lists of suites: both forms have the faults of a packed list.
-  module _ (list : List ℕ) (r : Packed) (e : packedOf r list ≡ packedAt bytes place) (holds : PackedCounts r list) where
+  module _ (list : List ℕ) (r : Packed) (e : packedOf r list ≡ packedAt bytes place) (holds : Stored r list) where
     module _ (refusal : Refusal) (h : r ≡ packed.Fault refusal) where
       refused-list : {B : Type 0} (y : B) → refused (refusalNumber refusal) ≡ judged (ofList bytes place (blockAt bytes place)) y
       unfolding packedAt
@@ -75,14 +74,14 @@ module _ (bytes : List ℕ) (place : ℕ) (f : Fields) (provers verifiers : List
       read y = same-read (ofList bytes place (blockAt bytes place)) _ _ y (sym e ∙ ap (λ (p : Packed). packedOf p list) h)
 
       tidy : Holds count list
-      tidy = subst (λ (p : Packed). PackedCounts p list) h holds
+      tidy = subst (λ (p : Packed). Stored p list) h holds
 
       pub provers-read : ContentStep Provers bytes place (withMark Provers f) provers verifiers
           (proceed (withProvers count f) after) list verifiers
       provers-read = record {
         reads = λ number.
             sym (read _ .1 ∙ ap (λ (l : Listed). readAs (stage (seenIn number (marked Provers (f .read))) (made number (f .place) (f .size) (f .bit) (l .suites) (entries (f .verifiers) verifiers)) (l .next))) (read place .0));
-        tidies = λ t. ((tidy, λ k. absurd-bool k), t .1);
+        tidies = λ t. (tidy, t .1);
       }
 
       pub verifiers-read : ContentStep Verifiers bytes place (withMark Verifiers f) provers verifiers
@@ -90,5 +89,5 @@ module _ (bytes : List ℕ) (place : ℕ) (f : Fields) (provers verifiers : List
       verifiers-read = record {
         reads = λ number.
             sym (read _ .1 ∙ ap (λ (l : Listed). readAs (stage (seenIn number (marked Verifiers (f .read))) (made number (f .place) (f .size) (f .bit) (entries (f .provers) provers) (l .suites)) (l .next))) (read place .0));
-        tidies = λ t. (t .0, (tidy, λ k. absurd-bool k));
+        tidies = λ t. (t .0, tidy);
       }

@@ -1,0 +1,34 @@
+-- The values of the definitions for each case of `Contents`, and what the lent lists hold afterwards.
+use Prim.Native.Nat.{ℕ, _≤_}
+use mathlib.Core.Bool.{cond}
+use mathlib.Core.List.{List, []}
+use lib.Dec.{eqb}
+use Rattle.wire.specs.Fault.{Reading, readAs, refused}
+use Rattle.wire.specs.Lists.{entries, padded}
+use Rattle.wire.specs.Refusals.{refusalNumber}
+use Rattle.fields.specs.Message.{Message, made}
+use Rattle.fields.specs.declared.Contents.{Contents}
+use Rattle.fields.specs.declared.Contents.the-variants.{Hello, Plain, Fault}
+
+-- What was read, with the two lists that were lent: a hello's suites are the first entries of each.
+abbrev pub contentsIn : Contents → (provers verifiers : List ℕ) → Reading Message
+contentsIn (Hello held) provers verifiers =
+    readAs (made 1 (held .place) (held .size) 0 (entries (held .provers) provers) (entries (held .verifiers) verifiers))
+contentsIn (Plain number part bit) provers verifiers = readAs (made number (part .place) (part .size) bit [] [])
+contentsIn (Fault refusal) provers verifiers = refused (refusalNumber refusal)
+
+-- A hello's counts are at most 16.
+abbrev pub CountsFit : Contents → Type 0
+CountsFit (Hello held) = (held .provers ≤ 16) × (held .verifiers ≤ 16)
+CountsFit (Plain number part bit) = Unit {0}
+CountsFit (Fault refusal) = Unit {0}
+
+-- What stands in the two lent lists after a reading: a hello's suites and then zeros; else they keep their entries.
+abbrev pub proversAfter : Reading Message → List ℕ → List ℕ
+proversAfter (readAs m) provers = cond (eqb (m .number) 1) (padded (m .provers)) provers
+proversAfter (refused number) provers = provers
+
+-- The same of the second list.
+abbrev pub verifiersAfter : Reading Message → List ℕ → List ℕ
+verifiersAfter (readAs m) verifiers = cond (eqb (m .number) 1) (padded (m .verifiers)) verifiers
+verifiersAfter (refused number) verifiers = verifiers
