@@ -18,7 +18,7 @@ use Rattle.wire.proofs.Order.{Between, append-refused, append-read}
 use Rattle.fields.specs.Schema.{formIn}
 use Rattle.fields.specs.Faults.{noNumbers, ofFields}
 use Rattle.fields.specs.Message.{Message, made, empty, withFields, readingAt}
-use Rattle.fields.specs.Contents.{CountsFit, contentsIn, proversAfter, verifiersAfter}
+use Rattle.fields.specs.Contents.{Fits, contentsIn, proversAfter, verifiersAfter}
 use Rattle.fields.specs.Steps.{Reads, ReadsPlain, fieldsOf, innerOf}
 use Rattle.fields.specs.declared.Contents.{Contents}
 use Rattle.fields.specs.declared.Contents.the-variants as contents
@@ -81,27 +81,33 @@ module _ (number : ℕ) (bytes : List ℕ) (place : ℕ) where
   inside start size e = rw (e)
 
 -- What is promised of contents and lists.
-pub reads-refused : (refusal : Refusal) → ReadsPlain (contents.Fault refusal) (refused (refusalNumber refusal))
-reads-refused refusal provers verifiers = record { reads = refl; provers-left = refl; verifiers-left = refl; counts = tt }
+pub reads-refused : (number : ℕ) (refusal : Refusal) → ReadsPlain number (contents.Fault refusal) (refused (refusalNumber refusal))
+reads-refused number refusal provers verifiers = record { reads = refl; provers-left = refl; verifiers-left = refl; fits = tt }
 
-pub reads-plain : (number : ℕ) (part : Span) (bit : ℕ) → (number ≡ 1 → ⊥) → ReadsPlain (contents.Plain number part bit) (readAs (made number (part .place) (part .size) bit [] []))
+pub reads-plain : (number : ℕ) (part : Span) (bit : ℕ) → (number ≡ 1 → ⊥) → ReadsPlain number (contents.Plain number part bit) (readAs (made number (part .place) (part .size) bit [] []))
 reads-plain number part bit h provers verifiers = record {
   reads = refl;
   provers-left = rw (ne-eqb number 1 h);
   verifiers-left = rw (ne-eqb number 1 h);
-  counts = tt;
+  fits = (refl, h);
 }
 
 pub reads-hello : (held : Held) (provers verifiers provers′ verifiers′ : List ℕ) → Holds (held .provers) provers′ → Holds (held .verifiers) verifiers′ →
-    Reads (contents.Hello held) (readAs (made 1 (held .place) (held .size) 0 (entries (held .provers) provers′) (entries (held .verifiers) verifiers′))) provers verifiers provers′ verifiers′
-reads-hello held provers verifiers provers′ verifiers′ h k = record { reads = refl; provers-left = h .1; verifiers-left = k .1; counts = (h .0, k .0) }
+    Reads 1 (contents.Hello held) (readAs (made 1 (held .place) (held .size) 0 (entries (held .provers) provers′) (entries (held .verifiers) verifiers′))) provers verifiers provers′ verifiers′
+reads-hello held provers verifiers provers′ verifiers′ h k = record { reads = refl; provers-left = h .1; verifiers-left = k .1; fits = (refl, (h .0, k .0)) }
 
 -- The same of a reading that equals this one.
-pub reads-as : (r : Contents) (reading reading′ : Reading Message) (provers verifiers provers′ verifiers′ : List ℕ) → reading′ ≡ reading →
-    Reads r reading provers verifiers provers′ verifiers′ → Reads r reading′ provers verifiers provers′ verifiers′
-reads-as r reading reading′ provers verifiers provers′ verifiers′ e h = subst (λ (q : Reading Message). Reads r q provers verifiers provers′ verifiers′) (sym e) h
+pub reads-as : (number : ℕ) (r : Contents) (reading reading′ : Reading Message) (provers verifiers provers′ verifiers′ : List ℕ) → reading′ ≡ reading →
+    Reads number r reading provers verifiers provers′ verifiers′ → Reads number r reading′ provers verifiers provers′ verifiers′
+reads-as number r reading reading′ provers verifiers provers′ verifiers′ e h = subst (λ (q : Reading Message). Reads number r q provers verifiers provers′ verifiers′) (sym e) h
+
+-- The same of a number that equals this one.
+pub reads-number : (n m : ℕ) → m ≡ n → (r : Contents) (bytes : List ℕ) (start size : ℕ) (provers verifiers provers′ verifiers′ : List ℕ) →
+    Reads n r (innerOf n bytes start size) provers verifiers provers′ verifiers′ → Reads m r (innerOf m bytes start size) provers verifiers provers′ verifiers′
+reads-number n m e r bytes start size provers verifiers provers′ verifiers′ h =
+    subst (λ (k : ℕ). Reads k r (innerOf k bytes start size) provers verifiers provers′ verifiers′) (sym e) h
 
 -- The promises of `read_at`, in its order.
-pub promised : (r : Contents) (reading : Reading Message) (provers verifiers provers′ verifiers′ : List ℕ) → Reads r reading provers verifiers provers′ verifiers′ →
-    (contentsIn r provers′ verifiers′ ≡ reading) × ((provers′ ≡ proversAfter reading provers) × ((verifiers′ ≡ verifiersAfter reading verifiers) × CountsFit r))
-promised r reading provers verifiers provers′ verifiers′ h = (h .reads, (h .provers-left, (h .verifiers-left, h .counts)))
+pub promised : (number : ℕ) (r : Contents) (reading : Reading Message) (provers verifiers provers′ verifiers′ : List ℕ) → Reads number r reading provers verifiers provers′ verifiers′ →
+    (contentsIn r provers′ verifiers′ ≡ reading) × ((provers′ ≡ proversAfter reading provers) × ((verifiers′ ≡ verifiersAfter reading verifiers) × Fits number r))
+promised number r reading provers verifiers provers′ verifiers′ h = (h .reads, (h .provers-left, (h .verifiers-left, h .fits)))

@@ -1,4 +1,5 @@
 -- The values of the definitions for each case of `Contents`, and what the lent lists hold afterwards.
+use mathlib.Core.Path.{_≡_}
 use Prim.Native.Nat.{ℕ, _≤_}
 use mathlib.Core.Bool.{cond}
 use mathlib.Core.List.{List, []}
@@ -17,11 +18,11 @@ contentsIn (Hello held) provers verifiers =
 contentsIn (Plain number part bit) provers verifiers = readAs (made number (part .place) (part .size) bit [] [])
 contentsIn (Fault refusal) provers verifiers = refused (refusalNumber refusal)
 
--- A hello's counts are at most 16.
-abbrev pub CountsFit : Contents → Type 0
-CountsFit (Hello held) = (held .provers ≤ 16) × (held .verifiers ≤ 16)
-CountsFit (Plain number part bit) = Unit {0}
-CountsFit (Fault refusal) = Unit {0}
+-- What was read fits the message's number: a hello's counts are at most 16, and any other message has its number.
+abbrev pub Fits : (message : ℕ) → Contents → Type 0
+Fits message (Hello held) = (message ≡ 1) × ((held .provers ≤ 16) × (held .verifiers ≤ 16))
+Fits message (Plain number part bit) = (number ≡ message) × (message ≡ 1 → ⊥)
+Fits message (Fault refusal) = Unit {0}
 
 -- What stands in the two lent lists after a reading: a hello's suites and then zeros; else they keep their entries.
 abbrev pub proversAfter : Reading Message → List ℕ → List ℕ

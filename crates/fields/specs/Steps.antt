@@ -13,7 +13,7 @@ use Rattle.wire.specs.Refusals.{refusalNumber}
 use Rattle.fields.specs.Schema.{Form, Unknown, Bytes, Provers, Verifiers, Bit, formIn}
 use Rattle.fields.specs.Faults.{noNumbers, adding, fieldOf, ofContent, ofField, ofFields, ofInner}
 use Rattle.fields.specs.Message.{Message, made, empty, filled, withField, withFields, messageIn}
-use Rattle.fields.specs.Contents.{CountsFit, contentsIn, proversAfter, verifiersAfter}
+use Rattle.fields.specs.Contents.{Fits, contentsIn, proversAfter, verifiersAfter}
 use Rattle.fields.specs.Fields.{Fields, Marks, Step, Tidy, TidyStep, marks, proceed, seenIn, stage, stepIn, stop, viewOf, withMark, withBytes, withBit, withProvers, withVerifiers}
 use Rattle.fields.specs.declared.Contents.{Contents}
 use Rattle.fields.specs.declared.plain.Field as plain
@@ -115,12 +115,12 @@ innerOf number bytes start size =
     judged (ofInner number bytes 0 (block start size)) (messageIn number bytes (block start size))
 
 -- What the contract of `read_at` promises of contents and lists, before and after.
-pub record Reads (r : Contents) (reading : Reading Message) (provers verifiers provers′ verifiers′ : List ℕ) : Type 0 where
+pub record Reads (number : ℕ) (r : Contents) (reading : Reading Message) (provers verifiers provers′ verifiers′ : List ℕ) : Type 0 where
   pub reads : contentsIn r provers′ verifiers′ ≡ reading
   pub provers-left : provers′ ≡ proversAfter reading provers
   pub verifiers-left : verifiers′ ≡ verifiersAfter reading verifiers
-  pub counts : CountsFit r
+  pub fits : Fits number r
 
 -- The same of a message without lists, which leaves both as they are.
-abbrev pub ReadsPlain : Contents → Reading Message → Type 0
-ReadsPlain r reading = (provers verifiers : List ℕ) → Reads r reading provers verifiers provers verifiers
+abbrev pub ReadsPlain : (number : ℕ) → Contents → Reading Message → Type 0
+ReadsPlain number r reading = (provers verifiers : List ℕ) → Reads number r reading provers verifiers provers verifiers

@@ -143,7 +143,7 @@ pub(crate) fn hello_in(
     verifiers: &mut [u32; 16],
 ) -> Contents
     requires { ⌜ start + size ≤ length (now bytes) ⌝ }
-    ensures { λ r. ⌜ Reads r (innerOf 1 (now (bytes .entry)) start size) (now (provers .entry)) (now (verifiers .entry)) (now (provers .exit)) (now (verifiers .exit)) ⌝ }
+    ensures { λ r. ⌜ Reads 1 r (innerOf 1 (now (bytes .entry)) start size) (now (provers .entry)) (now (verifiers .entry)) (now (provers .exit)) (now (verifiers .exit)) ⌝ }
 {
     let end = start + size;
     let mut peer_provers = [0; 16];

@@ -1,6 +1,6 @@
 // The messages of our schema, read field by field.
 ghost use mathlib.Core.Path.{_≡_};
-ghost use Rattle.fields.specs.Contents.{CountsFit, contentsIn, proversAfter, verifiersAfter};
+ghost use Rattle.fields.specs.Contents.{Fits, contentsIn, proversAfter, verifiersAfter};
 ghost use Rattle.fields.specs.Message.{readingAt};
 
 mod hello;
@@ -49,7 +49,7 @@ pub fn read_at(
     ensures { λ r. ⌜ contentsIn r (now (provers .exit)) (now (verifiers .exit)) ≡ readingAt message (now (bytes .entry)) place ⌝ }
     ensures { λ _. ⌜ now (provers .exit) ≡ proversAfter (readingAt message (now (bytes .entry)) place) (now (provers .entry)) ⌝ }
     ensures { λ _. ⌜ now (verifiers .exit) ≡ verifiersAfter (readingAt message (now (bytes .entry)) place) (now (verifiers .entry)) ⌝ }
-    ensures { λ r. ⌜ CountsFit r ⌝ }
+    ensures { λ r. ⌜ Fits message r ⌝ }
 {
     let part = block_at(bytes, place);
     match part {

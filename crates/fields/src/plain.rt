@@ -148,7 +148,7 @@ fn read_plain(message: u32, bytes: &[u8], start: usize) -> Plain
 pub(crate) fn plain_in(message: u32, bytes: &[u8], start: usize, size: usize) -> Contents
     requires { ⌜ (message ≡ 1 → ⊥) ⌝ }
     requires { ⌜ start + size ≤ length (now bytes) ⌝ }
-    ensures { λ r. ⌜ ReadsPlain r (innerOf message (now (bytes .entry)) start size) ⌝ }
+    ensures { λ r. ⌜ ReadsPlain message r (innerOf message (now (bytes .entry)) start size) ⌝ }
 {
     let end = start + size;
     let read = read_plain(message, &bytes[..end], start);

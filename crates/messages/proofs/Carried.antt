@@ -1,21 +1,19 @@
 -- Fields fill only the parts of a message for which the schema has a field.
-use mathlib.Core.Path.{_≡_, refl, sym, ap, _∙_}
+use mathlib.Core.Path.{_≡_, refl, ap, _∙_}
 use mathlib.Core.Bool.{Bool, true, false, cond}
 use mathlib.Core.List.{List, [], _∷_}
+use mathlib.Core.Option.{Option, none, some}
 use Prim.Native.Nat.{ℕ, _+_}
 use lib.ListN.{take, getD}
 use Rattle.wire.specs.Varint.{Number, value, fault, numberAt}
 use Rattle.wire.specs.Layout.{Block, block, faulty, blockAt, fieldNumber, fieldsFrom}
-use Rattle.messages.specs.Schema.{schema, formIn}
-use Rattle.wire.specs.Fault.{judged}
-use Rattle.messages.specs.Faults.{faultsOf}
-use Rattle.messages.specs.Message.{Message, made, empty, filled, withField, withFields, messageIn, messageBy, messageOf, readingOf}
-use Rattle.messages.specs.Fields.{formCode}
-use Rattle.messages.specs.Whole.{contains, carried, carriedIn}
-use Rattle.messages.specs.declared.schema.Form.{Form}
-use Rattle.messages.specs.declared.schema.Form.the-variants.{Unknown, Bytes, Provers, Verifiers, Bit}
-use Rattle.messages.proofs.Forms.{contained}
-use Rattle.wire.proofs.Order.{judged-mapped}
+use Rattle.wire.specs.Fault.{Fault, byFirst, judged, leftmost}
+use Rattle.fields.specs.Schema.{Form, Unknown, Bytes, Provers, Verifiers, Bit, schema, formIn}
+use Rattle.fields.specs.Message.{Message, made, empty, filled, withField, withFields, messageIn}
+use Rattle.fields.specs.Fields.{contains, formCode}
+use Rattle.fields.proofs.Forms.{contained}
+use Rattle.messages.specs.Outer.{faultsOf, messageBy, messageOf, readingOf}
+use Rattle.messages.specs.Whole.{carried, mapped}
 
 module _ (bytes : List ℕ) (place : ℕ) (m : Message) (c : carried m ≡ m) where
   still : (k : ℕ) (form : Form) → formIn (m .number) k ≡ form → carried (filled form bytes place m) ≡ filled form bytes place m
@@ -66,6 +64,10 @@ carried-message bytes = by-key (numberAt bytes 0)
     by-key (value key next) = by-block (fieldNumber key) (blockAt bytes next)
     by-key (fault refusal) = carries-all 0 bytes []
 
-pub carried-reading : (bytes : List ℕ) → carriedIn (readingOf bytes) ≡ readingOf bytes
+pub carried-reading : (bytes : List ℕ) → mapped carried (readingOf bytes) ≡ readingOf bytes
 unfolding readingOf
-carried-reading bytes = sym (judged-mapped carried (faultsOf bytes) (messageOf bytes)) ∙ ap (judged (faultsOf bytes)) (carried-message bytes)
+carried-reading bytes = by-first (leftmost (faultsOf bytes)) ∙ ap (judged (faultsOf bytes)) (carried-message bytes)
+  where
+    by-first : (o : Option Fault) → mapped carried (byFirst o (messageOf bytes)) ≡ byFirst o (carried (messageOf bytes))
+    by-first none = refl
+    by-first (some g) = refl

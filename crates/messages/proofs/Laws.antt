@@ -10,12 +10,10 @@ use Rattle.wire.specs.Layout.{Block, block, faulty, blockAt, fieldsFrom, fieldN
 use Rattle.wire.specs.Varint.{Number, value, fault, numberAt}
 use Rattle.wire.proofs.First.{leftmost-first, none-first, read-none, refused-some}
 use Rattle.wire.proofs.Places.{BlockStands, block-stands}
-use Rattle.messages.specs.Faults.{faultsOf}
+use Rattle.fields.specs.Schema.{Form, Unknown, Bytes, Provers, Verifiers, Bit, formIn}
+use Rattle.fields.specs.Message.{Message, empty, startIn, sizeIn, filled, withField, withFields, messageIn}
 use Rattle.messages.specs.Laws.{RefusedByFirst, MessageFaultless, PartLies}
-use Rattle.messages.specs.Message.{Message, empty, startIn, sizeIn, filled, withField, withFields, messageIn, messageBy, messageOf, readingOf}
-use Rattle.messages.specs.Schema.{formIn}
-use Rattle.messages.specs.declared.schema.Form.{Form}
-use Rattle.messages.specs.declared.schema.Form.the-variants.{Unknown, Bytes, Provers, Verifiers, Bit}
+use Rattle.messages.specs.Outer.{faultsOf, messageBy, messageOf, readingOf}
 
 pub message-faultless : MessageFaultless
 unfolding readingOf

@@ -7,10 +7,11 @@ use lib.ListN.{length, take, length-append, length-take, length-replicate}
 use mathlib.Core.Bool.{Bool, true, false, cond}
 use lib.Dec.{eqb}
 use Rattle.wire.specs.Fault.{Reading, readAs, refused}
-use Rattle.messages.specs.Flat.{flatIn}
-use Rattle.messages.specs.Message as spec
-use Rattle.messages.specs.Numbers.{entries, padded, proversAfter, verifiersAfter}
+use Rattle.wire.specs.Lists.{entries, padded}
 use Rattle.wire.proofs.Lists.{length-padded}
+use Rattle.fields.specs.Message as spec
+use Rattle.fields.specs.Contents.{proversAfter, verifiersAfter}
+use Rattle.messages.specs.Flat.{flatIn}
 
 pub length-entries : (count : ℕ) (list : List ℕ) → length (entries count list) ≡ count
 length-entries count list = rw (length-append, length-take, length-replicate) (omega arith)

@@ -1,27 +1,21 @@
 -- The outer field: which message it holds, and where.
-use mathlib.Core.Path.{_≡_, refl, sym, ap, subst, _∙_}
-use mathlib.Core.Bool.{Bool, true, false, cond, _&&_, _||_, or-false}
-use mathlib.Core.List.{List, [], _∷_, _++_}
-use Prim.Native.Nat.{ℕ, _+_, _-_, _<_, _≤_}
+use mathlib.Core.Path.{_≡_, refl, sym, _∙_}
+use mathlib.Core.Bool.{Bool, true, false, cond, not, _&&_, _||_, or-false}
+use mathlib.Core.List.{List, [], _∷_}
+use Prim.Native.Nat.{ℕ, _≤_}
 use native.Mathlib.Omega.{arith}
-use borrow.Author.Tests.{lt-ltb, le-ltb, ltb-true, leb-true}
-use lib.Dec.{leb, ltb}
-use lib.ListN.{length, take}
-use lib.Seq.{length-take-le}
+use borrow.Author.Tests.{leb-false, leb-true, le-leb, lt-leb, ltb-false, ltb-true}
+use lib.Dec.{eqb, leb, ltb}
+use lib.ListN.{length}
 use Rattle.wire.specs.Varint.{value, fault, numberAt}
-use Rattle.wire.specs.Layout.{block, faulty, blockAt, fieldNumber, wireType, fieldsFrom}
-use Rattle.messages.specs.Schema.{formIn, outerForm, isUnknown, wrongType}
-use Rattle.wire.specs.Fault.{Fault, at, faultIf, leftmost, readAs, refused, judged}
-use Rattle.messages.specs.Faults.{noNumbers, ofFields, ofInner, ofOuter, faultsOf}
-use Rattle.messages.specs.Message.{Message, empty, withFields, readingOf}
-use Rattle.messages.specs.Steps.{fieldsOf}
-use Rattle.messages.specs.Whole.{Located, innerOf}
-use Rattle.messages.specs.declared.schema.Form.{Form}
-use Rattle.messages.specs.declared.schema.Form.the-variants.{Unknown, Bytes}
-use Rattle.messages.proofs.FieldSteps.{unexpected, wrongly-typed, announced, fields-from}
-use Rattle.messages.proofs.Forms.{absurd-bool}
-use Rattle.wire.proofs.Order.{Between, append-refused, append-read}
-use Rattle.wire.proofs.Places.{block-within}
+use Rattle.wire.specs.Layout.{blockAt, fieldNumber, wireType}
+use Rattle.wire.specs.Fault.{Fault, leftmost, refused}
+use Rattle.wire.proofs.Order.{absurd-bool}
+use Rattle.fields.specs.Schema.{Form, Unknown, Bytes, outerForm, isUnknown, wrongType}
+use Rattle.fields.specs.Faults.{ofInner}
+use Rattle.fields.specs.Message.{readingAt}
+use Rattle.fields.proofs.FieldSteps.{unexpected, wrongly-typed, announced}
+use Rattle.messages.specs.Outer.{ofOuter, faultsOf, readingOf}
 
 pub no-bytes : (bytes : List ℕ) → length bytes ≡ 0 → readingOf bytes ≡ refused 22
 unfolding readingOf faultsOf leftmost
@@ -33,93 +27,50 @@ unfolding faultsOf
 some-bytes [] h = absurd (h refl)
 some-bytes (b ∷ bytes) h = refl
 
+-- The keys of the nine messages, whatever their wire type.
+module _ (key : ℕ) where
+  pub no-message : (ltb key 8 || leb 80 key) ≡ true → outerForm (fieldNumber key) ≡ Unknown
+  no-message t = by-tests (ltb key 8) (leb 80 key) refl refl t
+    where
+      by-tests : (s t : Bool) → ltb key 8 ≡ s → leb 80 key ≡ t → (s || t) ≡ true → outerForm (fieldNumber key) ≡ Unknown
+      by-tests true t p q e = let l = ltb-true key 8 p in rw (lt-leb 1 (fieldNumber key) (omega (arith, l)))
+      by-tests false true p q e =
+          let l = ltb-false key 8 p in
+          let m = leb-true 80 key q in
+          rw (le-leb 1 (fieldNumber key) (omega (arith, l)), lt-leb (fieldNumber key) 9 (omega (arith, m)))
+      by-tests false false p q e = absurd-bool (sym e)
+
+  pub known : (ltb key 8 || leb 80 key) ≡ false → (1 ≤ fieldNumber key) × (fieldNumber key ≤ 9)
+  known t = by-tests (ltb key 8) (leb 80 key) refl refl t
+    where
+      by-tests : (s t : Bool) → ltb key 8 ≡ s → leb 80 key ≡ t → (s || t) ≡ false → (1 ≤ fieldNumber key) × (fieldNumber key ≤ 9)
+      by-tests true t p q e = absurd-bool e
+      by-tests false true p q e = absurd-bool e
+      by-tests false false p q e = let l = ltb-false key 8 p in let m = leb-false 80 key q in (omega (arith, l), omega (arith, m))
+
+  pub a-message : (1 ≤ fieldNumber key) × (fieldNumber key ≤ 9) → outerForm (fieldNumber key) ≡ Bytes
+  a-message k = rw (le-leb 1 (fieldNumber key) (k .0), le-leb (fieldNumber key) 9 (k .1))
+
 module _ (bytes : List ℕ) (h : length bytes ≡ 0 → ⊥) where
   pub outer-faulty : (refusal : ℕ) → numberAt bytes 0 ≡ fault refusal → readingOf bytes ≡ refused refusal
   unfolding readingOf leftmost
   outer-faulty refusal e = rw (some-bytes bytes h, e)
 
   module _ (key next : ℕ) (e : numberAt bytes 0 ≡ value key next) where
-    abbrev form : Form
-    form = outerForm (fieldNumber key)
-
     abbrev inside : List Fault
     inside = ofInner (fieldNumber key) bytes next (blockAt bytes next)
 
-    pub outer-unexpected : isUnknown form ≡ true → readingOf bytes ≡ refused 22
+    pub outer-unexpected : (ltb key 8 || leb 80 key) ≡ true → readingOf bytes ≡ refused 22
     unfolding readingOf
-    outer-unexpected u =
-        rw (some-bytes bytes h, e)
-        (unexpected _ 0 inside (isUnknown form || false) (wrongType form (wireType key)) (or-false (isUnknown form) ∙ u))
+    outer-unexpected t = rw (some-bytes bytes h, e, no-message key t) (unexpected _ 0 inside true false refl)
 
-    pub outer-mistyped : isUnknown form ≡ false → wrongType form (wireType key) ≡ true → readingOf bytes ≡ refused 23
-    unfolding readingOf
-    outer-mistyped u w =
-        rw (some-bytes bytes h, e)
-        (wrongly-typed _ 0 inside (isUnknown form || false) (wrongType form (wireType key)) (or-false (isUnknown form) ∙ u) w)
+    module _ (t : (ltb key 8 || leb 80 key) ≡ false) where
+      pub outer-mistyped : not (eqb (wireType key) 2) ≡ true → readingOf bytes ≡ refused 23
+      unfolding readingOf
+      outer-mistyped w =
+          rw (some-bytes bytes h, e, a-message key (known key t))
+          (wrongly-typed _ 0 inside false (not (eqb (wireType key) 2)) refl w)
 
-    module _ (u : isUnknown form ≡ false) (w : wrongType form (wireType key) ≡ false) where
-      pub outer-cut : (refusal : ℕ) → blockAt bytes next ≡ faulty refusal → readingOf bytes ≡ refused refusal
-      unfolding readingOf leftmost
-      outer-cut refusal b =
-          rw (some-bytes bytes h, e, announced 0 inside (isUnknown form || false) (wrongType form (wireType key)) (or-false (isUnknown form) ∙ u) w, b)
-
-      known : (1 ≤ fieldNumber key) × (fieldNumber key ≤ 9)
-      known = by-test (leb 1 (fieldNumber key)) (leb (fieldNumber key) 9) refl refl u
-        where
-          by-test : (s t : Bool) → leb 1 (fieldNumber key) ≡ s → leb (fieldNumber key) 9 ≡ t → isUnknown (cond (s && t) Bytes Unknown) ≡ false → (1 ≤ fieldNumber key) × (fieldNumber key ≤ 9)
-          by-test true true p q k = (leb-true 1 (fieldNumber key) p, leb-true (fieldNumber key) 9 q)
-          by-test true false p q k = absurd-bool k
-          by-test false t p q k = absurd-bool k
-
-      pub outer-located : (start size : ℕ) → blockAt bytes next ≡ block start size → Located (fieldNumber key) start size bytes
-      unfolding readingOf innerOf
-      outer-located start size b = record {
-        within = block-within bytes next start size b .1;
-        known = known;
-        reading = rw (some-bytes bytes h, e, announced 0 inside (isUnknown form || false) (wrongType form (wireType key)) (or-false (isUnknown form) ∙ u) w, b);
-      }
-
--- A message in lent bytes, and what follows it.
-module _ (number : ℕ) (bytes : List ℕ) (start size : ℕ) (h : start + size ≤ length bytes) where
-  abbrev message : List ℕ
-  message = take (start + size) bytes
-
-  abbrev inFields : List Fault
-  inFields = ofFields (formIn number) noNumbers message (fieldsFrom message start)
-
-  fields-stand : Between start (start + size) inFields
-  fields-stand =
-      let n : length message ≡ start + size = length-take-le (start + size) bytes h in
-      subst (λ (e : ℕ). Between start e inFields) n
-      (fields-from message (formIn number) noNumbers start (omega (arith, n)))
-
-  abbrev following : List Fault
-  following = faultIf (ltb (start + size) (length bytes)) (at (start + size) 22)
-
-  following-stands : Between (start + size) (length bytes) following
-  following-stands = by-test (ltb (start + size) (length bytes)) refl
-    where
-      by-test : (t : Bool) → ltb (start + size) (length bytes) ≡ t → Between (start + size) (length bytes) (faultIf t (at (start + size) 22))
-      by-test true e = let l = ltb-true (start + size) (length bytes) e in ((omega arith, omega arith, omega arith, omega (arith, l)), tt)
-      by-test false e = tt
-
-  abbrev whole : Message
-  whole = withFields message (fieldsFrom message start) (empty number)
-
-  pub inner-refused : (refusal : ℕ) → refused refusal ≡ fieldsOf number message start → refused refusal ≡ innerOf number bytes start size
-  unfolding fieldsOf innerOf
-  inner-refused refusal e =
-      sym (append-refused start (start + size) (length bytes) inFields following fields-stand following-stands whole whole refusal (sym e))
-
-  module _ (m : Message) (e : readAs m ≡ fieldsOf number message start) where
-    read : (whole ≡ m) × (judged (inFields ++ following) whole ≡ judged following whole)
-    unfolding fieldsOf
-    read = append-read start (start + size) (length bytes) inFields following fields-stand following-stands whole m whole (sym e)
-
-    pub inner-trailing : start + size < length bytes → refused 22 ≡ innerOf number bytes start size
-    unfolding innerOf leftmost
-    inner-trailing end = sym (read .1 ∙ rw (lt-ltb (start + size) (length bytes) end))
-
-    pub inner-read : length bytes ≤ start + size → readAs m ≡ innerOf number bytes start size
-    unfolding innerOf leftmost
-    inner-read end = sym (read .1 ∙ rw (le-ltb (start + size) (length bytes) end) (ap readAs (read .0)))
+      pub outer-located : not (eqb (wireType key) 2) ≡ false → readingOf bytes ≡ readingAt (fieldNumber key) bytes next
+      unfolding readingOf readingAt
+      outer-located w = rw (some-bytes bytes h, e, a-message key (known key t), announced 0 inside false (not (eqb (wireType key) 2)) refl w)

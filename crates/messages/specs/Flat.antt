@@ -6,9 +6,9 @@ use mathlib.Core.List.{List}
 use lib.Dec.{eqb}
 use lib.ListN.{length}
 use Rattle.wire.specs.Fault.{Reading, readAs, refused}
-use Rattle.messages.specs.Message.{made}
-use Rattle.messages.specs.Message as spec
-use Rattle.messages.specs.Numbers.{entries}
+use Rattle.wire.specs.Lists.{entries}
+use Rattle.fields.specs.Message.{made}
+use Rattle.fields.specs.Message as spec
 use Rattle.messages.specs.declared.flat.FlatMessage.{FlatMessage}
 
 -- The numbers in their order.

@@ -4,8 +4,8 @@ use mathlib.Core.List.{List, []}
 use Prim.Native.Nat.{ℕ, _+_, _≤_}
 use lib.ListN.{length}
 use Rattle.wire.specs.Fault.{Fault, FirstIn, readAs, refused}
-use Rattle.messages.specs.Faults.{faultsOf}
-use Rattle.messages.specs.Message.{Message, readingOf}
+use Rattle.fields.specs.Message.{Message}
+use Rattle.messages.specs.Outer.{faultsOf, readingOf}
 
 -- A refusal's number is that of the leftmost fault.
 abbrev pub RefusedByFirst : Type 0

@@ -1,18 +1,18 @@
--- Document 01, "The forms we expect": the number and values of request #101 for each case of the enums that the code answers with;
--- what the lent lists hold afterwards, and the bytes of a span.
+-- Document 01, "The forms we expect": the number and values of request #101 for each case of the enum that the code answers with,
+-- and the bytes of a span.
 use Prim.Native.Nat.{ℕ, _+_, _≤_}
 use mathlib.Core.Bool.{cond}
 use mathlib.Core.List.{List, []}
-use lib.Dec.{eqb, ltb}
+use lib.Dec.{ltb}
 use lib.ListN.{length, take, drop}
 use Rattle.wire.specs.Fault.{Reading, readAs, refused}
-use Rattle.wire.specs.Lists.{entries, padded}
+use Rattle.wire.specs.Lists.{entries}
 use Rattle.wire.specs.Refusals.{refusalNumber}
-use Rattle.messages.specs.Message.{made, empty}
-use Rattle.messages.specs.Message as spec
+use Rattle.fields.specs.Message.{made, empty}
+use Rattle.fields.specs.Message as spec
+use Rattle.fields.specs.declared.Span.{Span}
 use Rattle.messages.specs.declared.Message.{Message}
 use Rattle.messages.specs.declared.Message.the-variants.{Hello, Close, DatExpired, Dat, ReRa, RaProver, RaVerifier, Data, Ack, Refused}
-use Rattle.messages.specs.declared.Span.{Span}
 
 -- An answer, with the two lists that were lent: a hello's suites are the first entries of each.
 abbrev pub readingIn : Message → (provers verifiers : List ℕ) → Reading spec.Message
@@ -39,16 +39,6 @@ CountsFit (RaVerifier payload) = Unit {0}
 CountsFit (Data payload bit) = Unit {0}
 CountsFit (Ack bit) = Unit {0}
 CountsFit (Refused refusal) = Unit {0}
-
--- What stands in the two lent lists after a reading: a hello's suites and then zeros; else they keep their entries.
-abbrev pub proversAfter : Reading spec.Message → List ℕ → List ℕ
-proversAfter (readAs m) provers = cond (eqb (m .number) 1) (padded (m .provers)) provers
-proversAfter (refused number) provers = provers
-
--- The same of the second list.
-abbrev pub verifiersAfter : Reading spec.Message → List ℕ → List ℕ
-verifiersAfter (readAs m) verifiers = cond (eqb (m .number) 1) (padded (m .verifiers)) verifiers
-verifiersAfter (refused number) verifiers = verifiers
 
 -- The bytes at a span; none where it does not lie within them.
 unfoldable pub partOf : List ℕ → Span → List ℕ

@@ -1,9 +1,8 @@
 // A reader of the peer's messages: one message of our schema from lent bytes.
 ghost use mathlib.Core.Path.{_≡_};
-ghost use Prim.Native.Nat.{_≤_};
-ghost use Rattle.wire.specs.Refusals.{refusalNumber};
-ghost use Rattle.messages.specs.Message.{readingOf};
-ghost use Rattle.messages.specs.Numbers.{CountsFit, partOf, proversAfter, readingIn, verifiersAfter};
+ghost use Rattle.fields.specs.Contents.{proversAfter, verifiersAfter};
+ghost use Rattle.messages.specs.Outer.{readingOf};
+ghost use Rattle.messages.specs.Numbers.{CountsFit, partOf, readingIn};
 ghost use Rattle.messages.specs.Whole.{MessageAs};
 
 mod flat;

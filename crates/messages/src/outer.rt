@@ -1,5 +1,8 @@
 // The outer message: one field, which holds one of the nine messages.
-use crate::FlatMessage;
+ghost use mathlib.Core.Path.{_≡_};
+ghost use Rattle.fields.specs.Contents.{contentsIn, proversAfter, verifiersAfter};
+ghost use Rattle.messages.specs.Outer.{readingOf};
+ghost use Rattle.messages.specs.Whole.{Known, Opened};
 use fields::Contents;
 use fields::read_at;
 use fields::schema;
@@ -19,6 +22,7 @@ pub enum Outer {
 
 // The outer field, by the key at the first byte.
 fn outer_field(bytes: &[u8]) -> Outer
+    ensures { λ r. ⌜ Opened r (now (bytes .entry)) ⌝ }
 {
     if bytes.len() == 0 {
         return Outer::Fault(Refusal::UnexpectedField);
@@ -44,6 +48,10 @@ pub(crate) fn contents_of(
     provers: &mut [u32; 16],
     verifiers: &mut [u32; 16],
 ) -> Contents
+    ensures { λ r. ⌜ contentsIn r (now (provers .exit)) (now (verifiers .exit)) ≡ readingOf (now (bytes .entry)) ⌝ }
+    ensures { λ _. ⌜ now (provers .exit) ≡ proversAfter (readingOf (now (bytes .entry))) (now (provers .entry)) ⌝ }
+    ensures { λ _. ⌜ now (verifiers .exit) ≡ verifiersAfter (readingOf (now (bytes .entry))) (now (verifiers .entry)) ⌝ }
+    ensures { λ r. ⌜ Known r ⌝ }
 {
     let found = outer_field(bytes);
     match found {

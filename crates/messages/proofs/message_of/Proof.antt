@@ -1,33 +1,36 @@
--- `wire::message_of` meets its contract.
+-- `messages::message_of` meets its contract.
+use mathlib.Core.Path.{_≡_, sym, ap, subst}
 use Prim.Native.Nat.{_≤_}
 use native.Mathlib.Omega.{arith}
 use borrow.Author.Needs.{needs}
-use Rattle.messages.proofs.Answers.{says-message, says-refusal}
+use Rattle.fields.specs.Contents.{contentsIn}
+use Rattle.fields.specs.declared.Contents.{Contents}
+use Rattle.messages.specs.Whole.{Known, carried, mapped}
+use Rattle.messages.proofs.Answers.{says-plain}
 use Rattle.messages.proofs.message_of.Statement.{statement}
 use Rattle.messages.proofs.message_of.Tie as tie
 
--- No other number is a message's.
-none-left : (c : tie.At-match-rest) → (1 ≤ c .before .args .message .number) × (c .before .args .message .number ≤ 9) → ⊥
-none-left c n =
-    let r = c .match .rest in
-    let low : 6 ≤ c .before .args .message .number = omega (arith, n .0, r .0 .0 .0 .0 .1, r .0 .0 .0 .0 .0 .1, r .0 .0 .0 .0 .0 .0 .1, r .0 .0 .0 .0 .0 .0 .0 .1, r .0 .0 .0 .0 .0 .0 .0 .0 .1) in
-    omega (arith, low, n .1, r .1, r .0 .1, r .0 .0 .1, r .0 .0 .0 .1)
-
-last : tie.Need-returns-10
-last c k = (says-refusal (c .before .before .args .message) k (none-left (c .before)) (c .«refusal-of» .result) (c .«refusal-of» .ensures), λ h. tt)
+-- The last of the eight.
+nine : (c : tie.At-match2-rest) → (2 ≤ c .before .before .contents2 .given .0 .0) × (c .before .before .contents2 .given .0 .0 ≤ 9) → c .before .before .contents2 .given .0 .0 ≡ 9
+nine c k =
+    let r = c .match2 .rest in
+    let above-5 : 6 ≤ c .before .before .contents2 .given .0 .0 = omega (arith, k .0, r .0 .0 .0 .1, r .0 .0 .0 .0 .1, r .0 .0 .0 .0 .0 .1, r .0 .0 .0 .0 .0 .0 .1) in
+    omega (arith, above-5, k .1, r .1, r .0 .1, r .0 .0 .1)
 
 pub message-of-spec : {M : Type 1} → statement M
 message-of-spec =
     tie.close
     (tie.spec
-    (λ c κs. search needs)
-    (λ c k. let a = c .before .args in (λ p v. says-message (a .message) k 1 (c .match .keys1) (omega arith) p v, λ h. h))
-    (λ c k. let a = c .before .args in (λ p v. says-message (a .message) k 2 (c .match .keys2) (omega arith) p v, λ h. tt))
-    (λ c k. let a = c .before .args in (λ p v. says-message (a .message) k 3 (c .match .keys3) (omega arith) p v, λ h. tt))
-    (λ c k. let a = c .before .args in (λ p v. says-message (a .message) k 4 (c .match .keys4) (omega arith) p v, λ h. tt))
-    (λ c k. let a = c .before .args in (λ p v. says-message (a .message) k 5 (c .match .keys5) (omega arith) p v, λ h. tt))
-    (λ c k. let a = c .before .args in (λ p v. says-message (a .message) k 6 (c .match .keys6) (omega arith) p v, λ h. tt))
-    (λ c k. let a = c .before .args in (λ p v. says-message (a .message) k 7 (c .match .keys7) (omega arith) p v, λ h. tt))
-    (λ c k. let a = c .before .args in (λ p v. says-message (a .message) k 8 (c .match .keys8) (omega arith) p v, λ h. tt))
-    (λ c k. let a = c .before .args in (λ p v. says-message (a .message) k 9 (c .match .keys9) (omega arith) p v, λ h. tt))
-    last)
+    (λ c. search needs)
+    (λ c. search needs)
+    (λ c. search needs)
+    (λ c k. let e = c .before .contents .given .1 in (λ p v. ap (λ (q : Contents). mapped carried (contentsIn q p v)) (sym e), subst Known e k))
+    (λ c k. (says-plain _ _ _ _ (c .before .before .contents2 .given .1) 2 (λ h. c .match2 .keys1) k, tt))
+    (λ c k. (says-plain _ _ _ _ (c .before .before .contents2 .given .1) 3 (λ h. c .match2 .keys2) k, tt))
+    (λ c k. (says-plain _ _ _ _ (c .before .before .contents2 .given .1) 4 (λ h. c .match2 .keys3) k, tt))
+    (λ c k. (says-plain _ _ _ _ (c .before .before .contents2 .given .1) 5 (λ h. c .match2 .keys4) k, tt))
+    (λ c k. (says-plain _ _ _ _ (c .before .before .contents2 .given .1) 6 (λ h. c .match2 .keys5) k, tt))
+    (λ c k. (says-plain _ _ _ _ (c .before .before .contents2 .given .1) 7 (λ h. c .match2 .keys6) k, tt))
+    (λ c k. (says-plain _ _ _ _ (c .before .before .contents2 .given .1) 8 (λ h. c .match2 .keys7) k, tt))
+    (λ c k. (says-plain _ _ _ _ (c .before .before .contents2 .given .1) 9 (nine c) k, tt))
+    (λ c k. (λ p v. ap (λ (q : Contents). mapped carried (contentsIn q p v)) (sym (c .before .contents3 .given .1)), tt)))

@@ -1,4 +1,4 @@
--- `wire::part` meets its contract.
+-- `messages::part` meets its contract.
 use Prim.Native.Nat.{_+_}
 use native.Mathlib.Omega.{arith}
 use native.Mathlib.Nat.{add-sub-cancel-left}

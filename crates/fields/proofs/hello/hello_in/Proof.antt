@@ -25,8 +25,8 @@ returns c =
     let k = n .before .before .before .before .before in
     let a = k .args in
     let e = ap (λ (q : Hello). helloIn q (provers-read n) (verifiers-read n)) (sym (c .before .before .read2 .given .1)) ∙ n .«read-hello» .ensures .0 in
-    reads-as _ _ _ _ _ _ _ (sym (inner-trailing 1 (a .bytes .now) (a .start) (a .size) (k .pre) _ e (c .if1 .taken)))
-    (reads-refused UnexpectedField (a .provers .now) (a .verifiers .now))
+    reads-as _ _ _ _ _ _ _ _ (sym (inner-trailing 1 (a .bytes .now) (a .start) (a .size) (k .pre) _ e (c .if1 .taken)))
+    (reads-refused _ UnexpectedField (a .provers .now) (a .verifiers .now))
 
 returns-2 : tie.Need-returns-2
 returns-2 c =
@@ -34,8 +34,8 @@ returns-2 c =
     let k = n .before .before .before .before .before in
     let a = k .args in
     let e = ap (λ (q : Hello). helloIn q (provers-read n) (verifiers-read n)) (sym (c .before .read .given .1)) ∙ n .«read-hello» .ensures .0 in
-    reads-as _ _ _ _ _ _ _ (sym (inner-refused 1 (a .bytes .now) (a .start) (a .size) (k .pre) _ e))
-    (reads-refused _ (a .provers .now) (a .verifiers .now))
+    reads-as _ _ _ _ _ _ _ _ (sym (inner-refused 1 (a .bytes .now) (a .start) (a .size) (k .pre) _ e))
+    (reads-refused _ _ (a .provers .now) (a .verifiers .now))
 
 returns-3 : tie.Need-returns-3
 returns-3 c =
@@ -45,7 +45,7 @@ returns-3 c =
     let q = c .before .before .read2 .given .1 in
     let e = ap (λ (h : Hello). helloIn h (provers-read n) (verifiers-read n)) (sym q) ∙ n .«read-hello» .ensures .0 in
     let t = subst (λ (h : Hello). HelloCounts h (provers-read n) (verifiers-read n)) q (n .«read-hello» .ensures .1) in
-    reads-as _ _ _ _ _ _ _ (sym (inner-read 1 (a .bytes .now) (a .start) (a .size) (k .pre) _ e (c .if1 .left)))
+    reads-as _ _ _ _ _ _ _ _ (sym (inner-read 1 (a .bytes .now) (a .start) (a .size) (k .pre) _ e (c .if1 .left)))
     (reads-hello _ (a .provers .now) (a .verifiers .now) (provers-read n) (verifiers-read n) (t .0) (t .1))
 
 pub hello-in-spec : {M : Type 1} → statement M

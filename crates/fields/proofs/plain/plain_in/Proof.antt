@@ -14,23 +14,23 @@ returns c =
     let k = c .before .before .before .before .before .before .before in
     let a = k .args in
     let e = ap (plainIn (a .message)) (sym (c .before .before .read2 .given .1)) ∙ c .before .before .before .before .«read-plain» .ensures in
-    λ provers verifiers. reads-as _ _ _ provers verifiers provers verifiers (sym (inner-trailing (a .message) (a .bytes .now) (a .start) (a .size) (k .pre .1) _ e (c .if1 .taken)))
-    (reads-refused UnexpectedField provers verifiers)
+    λ provers verifiers. reads-as _ _ _ _ provers verifiers provers verifiers (sym (inner-trailing (a .message) (a .bytes .now) (a .start) (a .size) (k .pre .1) _ e (c .if1 .taken)))
+    (reads-refused _ UnexpectedField provers verifiers)
 
 returns-2 : tie.Need-returns-2
 returns-2 c =
     let k = c .before .before .before .before .before .before in
     let a = k .args in
     let e = ap (plainIn (a .message)) (sym (c .before .read .given .1)) ∙ c .before .before .before .«read-plain» .ensures in
-    λ provers verifiers. reads-as _ _ _ provers verifiers provers verifiers (sym (inner-refused (a .message) (a .bytes .now) (a .start) (a .size) (k .pre .1) _ e))
-    (reads-refused _ provers verifiers)
+    λ provers verifiers. reads-as _ _ _ _ provers verifiers provers verifiers (sym (inner-refused (a .message) (a .bytes .now) (a .start) (a .size) (k .pre .1) _ e))
+    (reads-refused _ _ provers verifiers)
 
 returns-3 : tie.Need-returns-3
 returns-3 c =
     let k = c .before .before .before .before .before .before .before in
     let a = k .args in
     let e = ap (plainIn (a .message)) (sym (c .before .before .read2 .given .1)) ∙ c .before .before .before .before .«read-plain» .ensures in
-    λ provers verifiers. reads-as _ _ _ provers verifiers provers verifiers (sym (inner-read (a .message) (a .bytes .now) (a .start) (a .size) (k .pre .1) _ e (c .if1 .left)))
+    λ provers verifiers. reads-as _ _ _ _ provers verifiers provers verifiers (sym (inner-read (a .message) (a .bytes .now) (a .start) (a .size) (k .pre .1) _ e (c .if1 .left)))
     (reads-plain (a .message) _ _ (k .pre .0) provers verifiers)
 
 pub plain-in-spec : {M : Type 1} → statement M
