@@ -1,15 +1,5 @@
 pub mod Varints
 pub mod Order
+pub mod First
 pub mod Places
-pub mod Forms
 pub mod Lists
-pub mod Contents
-pub mod FieldSteps
-pub mod OneField
-pub mod FittingKeys
-pub mod Onward
-pub mod Opening
-pub mod Answers
-pub mod Carried
-pub mod Laws
-pub mod Lengths

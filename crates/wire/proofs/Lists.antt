@@ -8,12 +8,11 @@ use lib.Dec.{ltb}
 use lib.ListN.{length, take, set, length-append, length-replicate}
 use lib.Seq.{length-take-le, take-append-seam, set-append-seam}
 use Rattle.wire.specs.Varint.{Number, value, fault, numberAt}
-use Rattle.wire.specs.Parts.{listed, listFrom, packedAt}
+use Rattle.wire.specs.Parts.{listed, packedAt}
+use Rattle.wire.specs.Bytes.{listFrom}
 use Rattle.wire.specs.Layout.{block, faulty, blockAt, places, afterNumber, entriesFrom}
 use Rattle.wire.specs.Fault.{at, leftmost, readAs, refused, judged}
-use Rattle.wire.specs.Faults.{ofNumber, ofEntries}
-use Rattle.wire.specs.Message.{suitesFrom}
-use Rattle.wire.specs.Numbers.{entries, padded}
+use Rattle.wire.specs.Lists.{ofNumber, ofEntries, suitesFrom, entries, padded}
 use Rattle.wire.proofs.Order.{Between, widen, joined, not-before, append-refused}
 use Rattle.wire.proofs.Places.{Stands, stands, at-end, one-more, block-within}
 

@@ -8,8 +8,14 @@ use native.Mathlib.Decide.{ℕ-discrete}
 use native.Mathlib.Omega.{arith}
 use lib.Dec.{eqb, ltb}
 use borrow.Author.Tests.{le-ltb, ne-eqb}
-use Rattle.wire.specs.Parts.{mapped}
 use Rattle.wire.specs.Fault.{Fault, before, firstOf, leftmost, Reading, readAs, refused, byFirst, judged}
+
+pub absurd-bool {ℓ} : {X : Type ℓ} → true ≡ false → X
+absurd-bool e = absurd (subst if-true e tt)
+  where
+    if-true : Bool → Type 0
+    if-true true = Unit {0}
+    if-true false = ⊥
 
 -- A fault does not come before one that is further left, or at the same place with a number that is no higher.
 pub not-before : (f g : Fault) → f .place ≤ g .place → (f .place ≡ g .place → f .number ≤ g .number) → before g f ≡ false
@@ -114,13 +120,6 @@ module _ {A B : Type 0} where
     append-read x z y e =
         let r = read-by (leftmost fs) (leftmost gs) x z y e in
         (r .0, ap (λ (o : Option Fault). byFirst o y) (leftmost-append lo q hi fs gs b c) ∙ r .1)
-
-  pub judged-mapped : (f : A → B) (fs : List Fault) (x : A) → judged fs (f x) ≡ mapped f (judged fs x)
-  judged-mapped f fs x = by-first (leftmost fs)
-    where
-      by-first : (o : Option Fault) → byFirst o (f x) ≡ mapped f (byFirst o x)
-      by-first none = refl
-      by-first (some g) = refl
 
   -- What is refused is refused whatever would be read.
   pub same-refused : (fs : List Fault) (x : A) (y : B) (n : ℕ) → judged fs x ≡ refused n → judged fs y ≡ refused n

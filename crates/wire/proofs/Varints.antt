@@ -11,7 +11,7 @@ use lib.Dec.{ltb}
 use lib.ListN.{length, getD, take, drop, length-drop, drop-of-length-le}
 use lib.Seq.{take-all, drop-cons}
 use Rattle.wire.specs.Varint.{Said, says, cut, endless, below, said, value, fault, numberFrom, numberAt}
-use Rattle.wire.specs.Parts.{behind}
+use Rattle.wire.specs.Bytes.{behind}
 
 -- Nothing has been read.
 pub whole : (s : Said) → s ≡ behind 0 1 0 s

@@ -1,8 +1,9 @@
 -- Request #101: a fault stands at a place and has a refusal's number; the first from the left is given, and of two at one
 -- place the lower number.
+use mathlib.Core.Path.{_≡_}
 use Prim.Native.Nat.{ℕ}
-use mathlib.Core.Bool.{Bool, cond, _&&_, _||_}
-use mathlib.Core.List.{List, [], _∷_}
+use mathlib.Core.Bool.{Bool, false, cond, _&&_, _||_}
+use mathlib.Core.List.{List, [], _∷_, List·Memᴰ}
 use mathlib.Core.Option.{Option, none, some}
 use lib.Dec.{eqb, ltb}
 
@@ -51,3 +52,8 @@ byFirst (some f) read = refused (f .number)
 -- Bytes are refused by their first fault from the left, and read if they show none.
 abbrev pub judged : {A : Type 0} → List Fault → A → Reading A
 judged faults read = byFirst (leftmost faults) read
+
+-- A fault is one of the list, and none comes before it.
+pub record FirstIn (faults : List Fault) (f : Fault) : Type 0 where
+  pub member : List·Memᴰ f faults
+  pub first : (g : Fault) → List·Memᴰ g faults → before g f ≡ false

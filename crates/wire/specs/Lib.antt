@@ -1,13 +1,7 @@
 pub mod Varint
 pub mod Layout
-pub mod Schema
 pub mod Fault
-pub mod Faults
-pub mod Message
-pub mod Numbers
-pub mod Flat
-pub mod Laws
+pub mod Lists
+pub mod Refusals
 pub mod Parts
-pub mod Fields
-pub mod Steps
-pub mod Whole
+pub mod Bytes

@@ -13,7 +13,7 @@ pub enum Block {
 }
 
 // The length-delimited part at a place. It does not run past the end of the bytes.
-pub(crate) fn block_at(bytes: &[u8], place: usize) -> Block
+pub fn block_at(bytes: &[u8], place: usize) -> Block
     ensures { λ r. ⌜ blockOf r ≡ blockAt (now (bytes .entry)) place ⌝ }
 {
     let length = number(bytes, place);

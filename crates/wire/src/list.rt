@@ -1,8 +1,9 @@
 // A packed list of suites.
 ghost use mathlib.Core.Path.{_≡_};
 ghost use mathlib.Core.List.{[]};
-ghost use Rattle.wire.specs.Numbers.{padded};
-ghost use Rattle.wire.specs.Parts.{PackedCounts, listFrom, packedAt, packedOf};
+ghost use Rattle.wire.specs.Bytes.{listFrom};
+ghost use Rattle.wire.specs.Lists.{padded};
+ghost use Rattle.wire.specs.Parts.{Stored, packedAt, packedOf};
 use crate::Refusal;
 use crate::block::Block;
 use crate::block::block_at;
@@ -17,21 +18,24 @@ pub enum Packed {
     Fault(Refusal),
 }
 
-// The entries from `start` to the end of the bytes are written to `suites`, which holds zeros. After a fault it may hold
-// those before it.
+// The entries from `start` to the end of the bytes, written to `suites`, which holds zeros.
 fn entries(bytes: &[u8], start: usize, suites: &mut [u32; 16]) -> Packed
     requires { ⌜ now suites ≡ padded [] ⌝ }
     ensures { λ r. ⌜ packedOf r (now (suites .exit)) ≡ listFrom (now (bytes .entry)) start ⌝ }
-    ensures { λ r. ⌜ PackedCounts r (now (suites .exit)) ⌝ }
+    ensures { λ r. ⌜ Stored r (now (suites .exit)) ⌝ }
 {
     let mut count = 0;
     let mut at = start;
     while at < bytes.len() {
         let read = entry(bytes, at);
         match read {
-            Varint::Fault(refusal) => return Packed::Fault(refusal),
+            Varint::Fault(refusal) => {
+                *suites = [0; 16];
+                return Packed::Fault(refusal);
+            }
             Varint::Number(suite, next) => {
                 if count == MAX_ENTRIES {
+                    *suites = [0; 16];
                     return Packed::Fault(Refusal::TooManySuites);
                 }
                 suites[count] = suite;
@@ -43,12 +47,12 @@ fn entries(bytes: &[u8], start: usize, suites: &mut [u32; 16]) -> Packed
     Packed::Suites(count, bytes.len())
 }
 
-// The packed list at a place.
-pub(crate) fn packed_at(bytes: &[u8], place: usize, suites: &mut [u32; 16]) -> Packed
-    requires { ⌜ now suites ≡ padded [] ⌝ }
+// The packed list at a place, written to `suites` with zeros behind it. After a fault `suites` holds zeros.
+pub fn packed_at(bytes: &[u8], place: usize, suites: &mut [u32; 16]) -> Packed
     ensures { λ r. ⌜ packedOf r (now (suites .exit)) ≡ packedAt (now (bytes .entry)) place ⌝ }
-    ensures { λ r. ⌜ PackedCounts r (now (suites .exit)) ⌝ }
+    ensures { λ r. ⌜ Stored r (now (suites .exit)) ⌝ }
 {
+    *suites = [0; 16];
     let part = block_at(bytes, place);
     match part {
         Block::Fault(refusal) => Packed::Fault(refusal),

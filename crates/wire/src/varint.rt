@@ -1,11 +1,12 @@
 // A varint: seven bits a byte, the lowest first.
 ghost use mathlib.Core.Path.{_≡_};
 ghost use mathlib.Core.Bool.{cond};
-ghost use Prim.Native.Nat.{_<_, _≤_, _+_, _*_};
+ghost use Prim.Native.Nat.{_≤_, _+_};
 ghost use lib.Dec.{ltb};
-ghost use lib.ListN.{length, drop};
+ghost use lib.ListN.{length};
 ghost use Rattle.wire.specs.Varint.{value, fault, said, numberFrom, numberAt, bitAt};
-ghost use Rattle.wire.specs.Parts.{SaidBy, behind, numberOf};
+ghost use Rattle.wire.specs.Bytes.{SaidBy};
+ghost use Rattle.wire.specs.Parts.{numberOf};
 use crate::Refusal;
 
 // The lowest byte that announces another.
@@ -73,21 +74,7 @@ fn first_bytes(bytes: &[u8], most: usize) -> Said
     Said::More(low)
 }
 
-// A number whose first nine bytes say `low` and announce more. With any bit of the tenth it is too large.
-fn tenth(bytes: &[u8], place: usize, low: u64) -> Varint
-    requires { ⌜ place + length (now bytes) ≤ 18446744073709551615 ⌝ }
-    ensures { λ r. ⌜ numberOf r ≡ numberFrom place (behind low 9223372036854775808 9 (said 1 (drop 9 (now (bytes .entry))))) ⌝ }
-{
-    if SAFE_WIDTH >= bytes.len() {
-        return Varint::Fault(Refusal::EndsTooSoon);
-    }
-    if bytes[SAFE_WIDTH] > 0 {
-        return Varint::Fault(Refusal::NumberTooLarge);
-    }
-    fitting(low, place + 10)
-}
-
-// A number of any length, from its bytes on; `place` is that of the first.
+// A number of any length, from its bytes on; `place` is that of the first. With any bit of a tenth byte it is too large.
 fn long_number(bytes: &[u8], place: usize) -> Varint
     requires { ⌜ place + length (now bytes) ≤ 18446744073709551615 ⌝ }
     ensures { λ r. ⌜ numberOf r ≡ numberFrom place (said 10 (now (bytes .entry))) ⌝ }
@@ -96,12 +83,20 @@ fn long_number(bytes: &[u8], place: usize) -> Varint
     match said {
         Said::Value(number, width) => fitting(number, place + width),
         Said::Cut => Varint::Fault(Refusal::EndsTooSoon),
-        Said::More(low) => tenth(bytes, place, low),
+        Said::More(low) => {
+            if SAFE_WIDTH >= bytes.len() {
+                return Varint::Fault(Refusal::EndsTooSoon);
+            }
+            if bytes[SAFE_WIDTH] > 0 {
+                return Varint::Fault(Refusal::NumberTooLarge);
+            }
+            fitting(low, place + 10)
+        }
     }
 }
 
 // The number at a place. Most keys and lengths are said by one byte or two, and these are read without a call.
-pub(crate) fn number(bytes: &[u8], place: usize) -> Varint
+pub fn number(bytes: &[u8], place: usize) -> Varint
     ensures { λ r. ⌜ numberOf r ≡ numberAt (now (bytes .entry)) place ⌝ }
 {
     if place >= bytes.len() {
@@ -138,7 +133,7 @@ pub(crate) fn entry(bytes: &[u8], place: usize) -> Varint
 }
 
 // The bit at a place.
-pub(crate) fn bit(bytes: &[u8], place: usize) -> Varint
+pub fn bit(bytes: &[u8], place: usize) -> Varint
     ensures { λ r. ⌜ numberOf r ≡ bitAt (now (bytes .entry)) place ⌝ }
 {
     let varint = number(bytes, place);

@@ -6,11 +6,10 @@ use native.Mathlib.Omega.{arith}
 use lib.ListN.{length, length-append}
 use borrow.Author.Needs.{needs}
 use Rattle.wire.specs.Fault.{judged}
-use Rattle.wire.specs.Faults.{ofEntries}
 use Rattle.wire.specs.Layout.{entriesFrom}
-use Rattle.wire.specs.Message.{suitesFrom}
-use Rattle.wire.specs.Numbers.{entries, padded}
-use Rattle.wire.specs.Parts.{listed, numberOf, listFrom}
+use Rattle.wire.specs.Lists.{ofEntries, suitesFrom, entries, padded}
+use Rattle.wire.specs.Bytes.{listFrom}
+use Rattle.wire.specs.Parts.{listed, numberOf}
 use Rattle.wire.proofs.Lists.{entry-faulty, one-too-many, entry-taken, list-ends, one-stored, padded-entries}
 use Rattle.wire.proofs.Places.{after-read}
 use Rattle.wire.proofs.list.entries.Statement.{statement}
@@ -33,19 +32,19 @@ loop-holds c = ([], refl, omega arith, c .before .pre, refl)
 
 returns : tie.Need-returns Inv-loop μ-loop
 returns c =
-    let l = c .before .before .before .before .before .loop in
-    let e = sym (c .before .before .before .entry .ensures) ∙ ap numberOf (c .before .read .given .1) in
-    (sym (entry-faulty _ (l .at) (c .before .before .before .before .loop-test .taken) _ (16 - l .count) _ e) ∙ l .inv .4, tt)
+    let l = c .before .before .before .before .before .before .loop in
+    let e = sym (c .before .before .before .before .entry .ensures) ∙ ap numberOf (c .before .before .read .given .1) in
+    (sym (entry-faulty _ (l .at) (c .before .before .before .before .before .loop-test .taken) _ (16 - l .count) _ e) ∙ l .inv .4, refl)
 
 returns-2 : tie.Need-returns-2 Inv-loop μ-loop
 returns-2 c =
-    let l = c .before .before .before .before .before .before .loop in
-    let s = c .before .before .before .before .before .before .before .before .args .bytes .now in
-    let e = sym (c .before .before .before .before .entry .ensures) ∙ ap numberOf (c .before .before .read2 .given .1) in
-    let full : 16 - l .count ≡ 0 = omega (arith, c .if1 .taken) in (
+    let l = c .before .before .before .before .before .before .before .loop in
+    let s = c .before .before .before .before .before .before .before .before .before .args .bytes .now in
+    let e = sym (c .before .before .before .before .before .entry .ensures) ∙ ap numberOf (c .before .before .before .read2 .given .1) in
+    let full : 16 - l .count ≡ 0 = omega (arith, c .before .if1 .taken) in (
       sym (ap (λ (n : ℕ). judged (ofEntries s n (entriesFrom s (l .at))) (listed (l .inv .0 ++ suitesFrom s (l .at)) (length s))) full
-          ∙ one-too-many s (l .at) (c .before .before .before .before .before .loop-test .taken) _ _ e _) ∙ l .inv .4,
-      tt,
+          ∙ one-too-many s (l .at) (c .before .before .before .before .before .before .loop-test .taken) _ _ e _) ∙ l .inv .4,
+      refl,
     )
 
 -- There is room for the entry.

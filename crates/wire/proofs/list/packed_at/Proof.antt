@@ -1,5 +1,5 @@
 -- `wire::list::packed_at` meets its contract.
-use mathlib.Core.Path.{sym, ap, _∙_}
+use mathlib.Core.Path.{refl, sym, ap, _∙_}
 use native.Mathlib.Omega.{arith}
 use borrow.Author.Needs.{needs}
 use lib.Seq.{length-take-le}
@@ -12,7 +12,7 @@ use Rattle.wire.proofs.list.packed_at.Tie as tie
 add-end : tie.Need-add-end
 add-end c =
     let e = sym (c .before .before .before .«block-at» .ensures) ∙ ap blockOf (c .before .part2 .given .1) in
-    omega (arith, block-within _ _ _ _ e .1, c .before .before .before .before .before .good .0)
+    omega (arith, block-within _ _ _ _ e .1, c .before .before .before .before .before .before .good .0)
 
 slice-aggregate-entries : tie.Need-slice-aggregate-entries
 slice-aggregate-entries c =
@@ -22,7 +22,7 @@ slice-aggregate-entries c =
 returns : tie.Need-returns
 returns c =
     let e = sym (c .before .before .before .«block-at» .ensures) ∙ ap blockOf (c .before .part .given .1) in
-    (sym (packed-faulty _ _ _ e), tt)
+    (sym (packed-faulty _ _ _ e), refl)
 
 returns-2 : tie.Need-returns-2
 returns-2 c =

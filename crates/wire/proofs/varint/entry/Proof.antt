@@ -6,7 +6,7 @@ use native.Mathlib.Omega.{arith}
 use lib.ListN.{length, take, drop, length-drop}
 use borrow.Author.Needs.{needs}
 use Rattle.wire.specs.Varint.{said, numberFrom, numberAt}
-use Rattle.wire.specs.Parts.{SaidBy}
+use Rattle.wire.specs.Bytes.{SaidBy}
 use Rattle.wire.specs.declared.varint.Said.{Said}
 use Rattle.wire.proofs.Places.{Fits, fits}
 use Rattle.wire.proofs.Varints.{from-place}

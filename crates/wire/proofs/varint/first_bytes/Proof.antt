@@ -5,7 +5,7 @@ use native.Mathlib.Omega.{arith}
 use lib.ListN.{drop}
 use borrow.Author.Needs.{needs}
 use Rattle.wire.specs.Varint.{said}
-use Rattle.wire.specs.Parts.{behind}
+use Rattle.wire.specs.Bytes.{behind}
 use Rattle.wire.proofs.Varints.{whole, ended, last, more, light, product, heavier}
 use Rattle.wire.proofs.varint.first_bytes.Statement.{statement}
 use Rattle.wire.proofs.varint.first_bytes.Tie as tie

@@ -1,0 +1,5 @@
+pub mod Outer
+pub mod Numbers
+pub mod Flat
+pub mod Laws
+pub mod Whole
