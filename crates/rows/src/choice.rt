@@ -1,0 +1,29 @@
+// Rows `suites`: the choice of suites.
+use crate::lists;
+use crate::lists::ENTRIES;
+use capi::menhotrac_choose_suites;
+use scan::groups;
+use stdio::print;
+
+pub(crate) fn answer(row: &[u8]) -> bool {
+    let mut a = [0u32; ENTRIES];
+    let mut b = [0u32; ENTRIES];
+    let mut c = [0u32; ENTRIES];
+    let mut d = [0u32; ENTRIES];
+    let found = lists::read(row, 0, &mut a, &mut b, &mut c, &mut d);
+    if !(found.is_understood & (groups(row) == 4)) {
+        return false;
+    }
+    let i = found.our_verifiers;
+    let j = found.peer_provers;
+    let k = found.peer_verifiers;
+    let l = found.our_provers;
+    let mut chosen = [0u32; 4];
+    let refusal = menhotrac_choose_suites(&a[..i], &b[..j], &c[..k], &d[..l], &mut chosen);
+    print::text(b"suites");
+    print::number(refusal as u64);
+    print::text(b" ;");
+    print::numbers(&chosen);
+    print::text(b"\n");
+    true
+}

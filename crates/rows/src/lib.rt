@@ -1,0 +1,69 @@
+// The worked cases as rows: each asks the library, by the functions that hosts call, and prints what they give.
+mod lists;
+mod message;
+mod seconds;
+mod step;
+mod choice;
+
+use check::same;
+use stdio::print;
+use stdio::read_line;
+
+// The bytes of the longest line that is understood.
+const LINE: usize = 4_096;
+
+const HASH: u8 = 35;
+
+// Answers the next line of standard input, which has a number; false where there is none.
+pub fn answer_line(number: u64) -> bool {
+    let mut line = [0u8; LINE];
+    let found = read_line(&mut line);
+    if found.is_missing {
+        return false;
+    }
+    let len = found.len;
+    let is_understood = if found.is_too_long {
+        false
+    } else {
+        answer(&line[..len])
+    };
+    if !is_understood {
+        print::text(b"error in line");
+        print::number(number);
+        print::text(b"\n");
+    }
+    true
+}
+
+// Copies a line or answers a row; whether it was understood.
+fn answer(line: &[u8]) -> bool {
+    if line.len() == 0 {
+        return copy(line);
+    }
+    if line[0] == HASH {
+        return copy(line);
+    }
+    answer_row(scan::word(line), scan::after_word(line))
+}
+
+fn copy(line: &[u8]) -> bool {
+    print::text(line);
+    print::text(b"\n");
+    true
+}
+
+fn answer_row(word: &[u8], row: &[u8]) -> bool {
+    if same(word, b"seconds") {
+        return seconds::answer(row);
+    }
+    if same(word, b"suites") {
+        return choice::answer(row);
+    }
+    if same(word, b"message") {
+        return message::answer(row);
+    }
+    if same(word, b"step") {
+        return step::answer(row);
+    }
+    false
+}

@@ -1,0 +1,27 @@
+// Rows `seconds`: the time left of a token.
+use capi::menhotrac_seconds_left;
+use scan::item;
+use scan::number;
+use scan::signed;
+use stdio::print;
+
+pub(crate) fn answer(row: &[u8]) -> bool {
+    let expiry = signed(item(row, 0));
+    let at = signed(item(row, 1));
+    let margin = number(item(row, 2));
+    let rest = item(row, 3);
+    let is_understood = expiry.is_understood
+        & at.is_understood
+        & margin.is_understood
+        & (rest.len() == 0);
+    if !is_understood {
+        return false;
+    }
+    let mut seconds: i64 = 0;
+    let refusal = menhotrac_seconds_left(expiry.value, at.value, margin.value, &mut seconds);
+    print::text(b"seconds");
+    print::number(refusal as u64);
+    print::signed(seconds);
+    print::text(b"\n");
+    true
+}

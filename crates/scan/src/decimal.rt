@@ -1,0 +1,141 @@
+// Unsigned64 numbers.
+ghost use Prim.Native.Nat.{_≤_};
+ghost use Rattle.io.specs.Counts.{Counts};
+use crate::Entries;
+use crate::item;
+
+const MINUS: u8 = 45;
+
+const LARGEST: u64 = 4_294_967_295;
+
+const LARGEST_SIGNED: u64 = 9_223_372_036_854_775_807;
+
+// How far the smallest signed number is from 0.
+const SMALLEST_SIGNED: u64 = 9_223_372_036_854_775_808;
+
+// What a byte that is no digit counts as: more than two hexadecimal digits can be.
+const NO_DIGIT: u32 = 256;
+
+// An unsigned 32-bit number; 0 where it was not understood.
+pub struct Unsigned32 {
+    pub value: u32,
+    pub is_understood: bool,
+}
+
+// A signed 64-bit number; 0 where it was not understood.
+pub struct Signed64 {
+    pub value: i64,
+    pub is_understood: bool,
+}
+
+struct Unsigned64 {
+    value: u64,
+    is_understood: bool,
+}
+
+// The value of a digit, decimal or hexadecimal in lower case.
+pub(crate) fn digit(byte: u8) -> u32
+    ensures { λ r. ⌜ r ≤ 256 ⌝ }
+{
+    match byte {
+        48..=57 => byte as u32 - 48,
+        97..=102 => byte as u32 - 87,
+        _ => NO_DIGIT,
+    }
+}
+
+// The number of one digit or more, if it is at most `most`.
+fn decimal(digits: &[u8], most: u64) -> Unsigned64
+    requires { ⌜ 9 ≤ most ⌝ }
+    ensures { λ r. ⌜ r .value ≤ most ⌝ }
+{
+    let mut value: u64 = 0;
+    for i in 0..digits.len() {
+        let next = digit(digits[i]) as u64;
+        if next > 9 {
+            return Unsigned64 {
+                value: 0,
+                is_understood: false,
+            };
+        }
+        if value > (most - next) / 10 {
+            return Unsigned64 {
+                value: 0,
+                is_understood: false,
+            };
+        }
+        value = value * 10 + next;
+    }
+    Unsigned64 {
+        value,
+        is_understood: digits.len() > 0,
+    }
+}
+
+pub fn number(item: &[u8]) -> Unsigned32 {
+    let found = decimal(item, LARGEST);
+    Unsigned32 {
+        value: found.value as u32,
+        is_understood: found.is_understood,
+    }
+}
+
+// Minus a number, which is the complement of the number before it.
+fn minus(size: u64) -> i64
+    requires { ⌜ size ≤ 9223372036854775808 ⌝ }
+{
+    if size == 0 {
+        return 0;
+    }
+    !((size - 1) as i64)
+}
+
+pub fn signed(item: &[u8]) -> Signed64 {
+    if item.len() > 0 {
+        if item[0] == MINUS {
+            let found = decimal(&item[1..], SMALLEST_SIGNED);
+            return Signed64 {
+                value: minus(found.value),
+                is_understood: found.is_understood,
+            };
+        }
+    }
+    let found = decimal(item, LARGEST_SIGNED);
+    Signed64 {
+        value: found.value as i64,
+        is_understood: found.is_understood,
+    }
+}
+
+// The first items of a group, at most as many as there is room for.
+pub fn first_numbers(group: &[u8], out: &mut [u32]) -> Entries
+    ensures { λ r. ⌜ Counts (r .len) (now (out .exit)) ⌝ }
+{
+    for i in 0..out.len() {
+        let next = item(group, i);
+        let found = number(next);
+        if !found.is_understood {
+            return Entries {
+                len: i,
+                is_understood: next.len() == 0,
+            };
+        }
+        out[i] = found.value;
+    }
+    Entries {
+        len: out.len(),
+        is_understood: true,
+    }
+}
+
+// All items of a group.
+pub fn numbers(group: &[u8], out: &mut [u32]) -> Entries
+    ensures { λ r. ⌜ Counts (r .len) (now (out .exit)) ⌝ }
+{
+    let found = first_numbers(group, out);
+    let len = found.len;
+    Entries {
+        len,
+        is_understood: found.is_understood & (item(group, len).len() == 0),
+    }
+}
