@@ -19,7 +19,7 @@ pub(crate) fn answer(row: &[u8]) -> bool {
     let k = found.peer_verifiers;
     let l = found.our_provers;
     let mut chosen = [0u32; 4];
-    let refusal = menhotrac_choose_suites(&a[..i], &b[..j], &c[..k], &d[..l], &mut chosen);
+    let refusal = menhotrac_choose_suites(&a[0..i], &b[0..j], &c[0..k], &d[0..l], &mut chosen);
     print::text(b"suites");
     print::number(refusal as u64);
     print::text(b" ;");

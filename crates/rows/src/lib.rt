@@ -1,9 +1,9 @@
 // The worked cases as rows: each asks the library, by the functions that hosts call, and prints what they give.
+mod choice;
 mod lists;
 mod message;
 mod seconds;
 mod step;
-mod choice;
 
 use check::same;
 use stdio::print;
@@ -25,7 +25,7 @@ pub fn answer_line(number: u64) -> bool {
     let is_understood = if found.is_too_long {
         false
     } else {
-        answer(&line[..len])
+        answer(&line[0..len])
     };
     if !is_understood {
         print::text(b"error in line");

@@ -1,5 +1,6 @@
 // The four suite lists of a row.
-ghost use Rattle.io.specs.Counts.{Counts};
+ghost use Prim.Native.Nat.{_≤_};
+ghost use lib.ListN.{length};
 use scan::group;
 use scan::numbers;
 
@@ -23,10 +24,10 @@ pub(crate) fn read(
     peer_verifiers: &mut [u32],
     our_provers: &mut [u32],
 ) -> Lists
-    ensures { λ r. ⌜ Counts (r .«our_verifiers») (now («our_verifiers» .exit)) ⌝ }
-    ensures { λ r. ⌜ Counts (r .«peer_provers») (now («peer_provers» .exit)) ⌝ }
-    ensures { λ r. ⌜ Counts (r .«peer_verifiers») (now («peer_verifiers» .exit)) ⌝ }
-    ensures { λ r. ⌜ Counts (r .«our_provers») (now («our_provers» .exit)) ⌝ }
+    ensures { λ r. ⌜ r .«our_verifiers» ≤ length (now («our_verifiers» .exit)) ⌝ }
+    ensures { λ r. ⌜ r .«peer_provers» ≤ length (now («peer_provers» .exit)) ⌝ }
+    ensures { λ r. ⌜ r .«peer_verifiers» ≤ length (now («peer_verifiers» .exit)) ⌝ }
+    ensures { λ r. ⌜ r .«our_provers» ≤ length (now («our_provers» .exit)) ⌝ }
 {
     let a = numbers(group(row, first), our_verifiers);
     let b = numbers(group(row, first + 1), peer_provers);

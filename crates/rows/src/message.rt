@@ -13,7 +13,7 @@ pub(crate) fn answer(row: &[u8]) -> bool {
         return false;
     }
     let len = found.len;
-    read(&buffer[..len]);
+    read(&buffer[0..len]);
     true
 }
 

@@ -73,12 +73,18 @@ pub(crate) fn answer(row: &[u8]) -> bool {
         row,
         &mut record,
         event.fields,
-        &payload[..m],
-        &mut cache[..n],
+        &payload[0..m],
+        &mut cache[0..n],
         &mut actions,
     );
     if answer.is_understood {
-        show(answer.number, &record, &actions, &payload[..m], &cache[..n]);
+        show(
+            answer.number,
+            &record,
+            &actions,
+            &payload[0..m],
+            &cache[0..n],
+        );
     }
     answer.is_understood
 }
@@ -113,10 +119,10 @@ fn call(
         payload,
         cache,
         actions,
-        &a[..i],
-        &b[..j],
-        &c[..k],
-        &d[..l],
+        &a[0..i],
+        &b[0..j],
+        &c[0..k],
+        &d[0..l],
     );
     Answer {
         number,

@@ -1,6 +1,6 @@
 // Unsigned64 numbers.
 ghost use Prim.Native.Nat.{_≤_};
-ghost use Rattle.io.specs.Counts.{Counts};
+ghost use lib.ListN.{length};
 use crate::Entries;
 use crate::item;
 
@@ -109,7 +109,7 @@ pub fn signed(item: &[u8]) -> Signed64 {
 
 // The first items of a group, at most as many as there is room for.
 pub fn first_numbers(group: &[u8], out: &mut [u32]) -> Entries
-    ensures { λ r. ⌜ Counts (r .len) (now (out .exit)) ⌝ }
+    ensures { λ r. ⌜ r .len ≤ length (now (out .exit)) ⌝ }
 {
     for i in 0..out.len() {
         let next = item(group, i);
@@ -130,7 +130,7 @@ pub fn first_numbers(group: &[u8], out: &mut [u32]) -> Entries
 
 // All items of a group.
 pub fn numbers(group: &[u8], out: &mut [u32]) -> Entries
-    ensures { λ r. ⌜ Counts (r .len) (now (out .exit)) ⌝ }
+    ensures { λ r. ⌜ r .len ≤ length (now (out .exit)) ⌝ }
 {
     let found = first_numbers(group, out);
     let len = found.len;

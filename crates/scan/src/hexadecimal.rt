@@ -1,7 +1,6 @@
 // Bytes in hexadecimal, two digits a byte, and as COUNT*BYTE.
 ghost use Prim.Native.Nat.{_≤_};
 ghost use lib.ListN.{length};
-ghost use Rattle.io.specs.Counts.{Counts};
 use crate::Entries;
 use crate::decimal::digit;
 use crate::decimal::number;
@@ -18,9 +17,15 @@ fn pair(high: u8, low: u8) -> u32 {
 // Writes a byte so many times after the first `len` bytes, if it is one and there is room.
 fn repeat(out: &mut [u8], len: usize, count: usize, byte: u32) -> Entries
     requires { ⌜ len ≤ length (now out) ⌝ }
-    ensures { λ r. ⌜ Counts (r .len) (now (out .exit)) ⌝ }
+    ensures { λ r. ⌜ r .len ≤ length (now (out .exit)) ⌝ }
 {
-    if (byte > 255) | (count > out.len() - len) {
+    if byte > 255 {
+        return Entries {
+            len,
+            is_understood: false,
+        };
+    }
+    if count > out.len() - len {
         return Entries {
             len,
             is_understood: false,
@@ -38,7 +43,7 @@ fn repeat(out: &mut [u8], len: usize, count: usize, byte: u32) -> Entries
 // Writes the bytes of an even number of digits.
 fn digits(piece: &[u8], out: &mut [u8], len: usize) -> Entries
     requires { ⌜ len ≤ length (now out) ⌝ }
-    ensures { λ r. ⌜ Counts (r .len) (now (out .exit)) ⌝ }
+    ensures { λ r. ⌜ r .len ≤ length (now (out .exit)) ⌝ }
 {
     let mut len = len;
     let mut i = 0;
@@ -59,11 +64,11 @@ fn digits(piece: &[u8], out: &mut [u8], len: usize) -> Entries
 // Writes the bytes of one piece.
 fn piece(piece: &[u8], out: &mut [u8], len: usize) -> Entries
     requires { ⌜ len ≤ length (now out) ⌝ }
-    ensures { λ r. ⌜ Counts (r .len) (now (out .exit)) ⌝ }
+    ensures { λ r. ⌜ r .len ≤ length (now (out .exit)) ⌝ }
 {
     let star = find(piece, 0, STAR);
     if star + 3 == piece.len() {
-        let count = number(&piece[..star]);
+        let count = number(&piece[0..star]);
         if count.is_understood {
             return repeat(
                 out,
@@ -78,7 +83,7 @@ fn piece(piece: &[u8], out: &mut [u8], len: usize) -> Entries
 
 // The bytes of all pieces of a group.
 pub fn bytes(group: &[u8], out: &mut [u8]) -> Entries
-    ensures { λ r. ⌜ Counts (r .len) (now (out .exit)) ⌝ }
+    ensures { λ r. ⌜ r .len ≤ length (now (out .exit)) ⌝ }
 {
     let mut len = 0;
     for i in 0..group.len() {

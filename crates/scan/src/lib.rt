@@ -41,7 +41,7 @@ pub(crate) fn find(s: &[u8], from: usize, byte: u8) -> usize
 // The bytes before the first blank.
 pub fn word(line: &[u8]) -> &[u8] {
     let end = find(line, 0, BLANK);
-    &line[..end]
+    &line[0..end]
 }
 
 pub fn after_word(line: &[u8]) -> &[u8] {
@@ -52,10 +52,10 @@ pub fn after_word(line: &[u8]) -> &[u8] {
 // How many groups there are: one more than there are `;`.
 pub fn groups(s: &[u8]) -> u64 {
     let mut count = 1;
-    for at in 0..s.len() {
-        if s[at] == SEMICOLON {
-            count += 1;
-        }
+    let mut at = find(s, 0, SEMICOLON);
+    while at < s.len() {
+        count += 1;
+        at = find(s, at + 1, SEMICOLON);
     }
     count
 }
@@ -77,16 +77,16 @@ pub fn group(s: &[u8], index: usize) -> &[u8] {
 // The item with an index, which has a byte at least; nothing where there are fewer items.
 pub fn item(group: &[u8], index: usize) -> &[u8] {
     let mut from = 0;
-    let mut before = 0;
+    let mut left = index;
     while from < group.len() {
         let end = find(group, from, BLANK);
         if end > from {
-            if before == index {
+            if left == 0 {
                 return &group[from..end];
             }
-            before += 1;
+            left -= 1;
         }
         from = end + 1;
     }
-    &group[..0]
+    &group[0..0]
 }

@@ -1,5 +1,6 @@
 // Lines of standard input, and numbers and bytes on standard output.
-ghost use Rattle.io.specs.Counts.{Counts};
+ghost use Prim.Native.Nat.{_≤_};
+ghost use lib.ListN.{length};
 
 pub mod print;
 
@@ -38,7 +39,7 @@ fn put(line: &mut [u8], at: usize, byte: u8) {
 
 // A line of `size` bytes in its buffer.
 fn line_in(line: &[u8], size: usize, is_missing: bool) -> Line
-    ensures { λ r. ⌜ Counts (r .len) (now (line .entry)) ⌝ }
+    ensures { λ r. ⌜ r .len ≤ length (now (line .entry)) ⌝ }
 {
     if size > line.len() {
         return Line {
@@ -57,7 +58,7 @@ fn line_in(line: &[u8], size: usize, is_missing: bool) -> Line
 // Reads the next line into a buffer, without its newline. A line that is longer than the buffer is read to its end.
 // No contract of C's read says that a line ends, so its bytes are counted.
 pub fn read_line(line: &mut [u8]) -> Line
-    ensures { λ r. ⌜ Counts (r .len) (now (line .exit)) ⌝ }
+    ensures { λ r. ⌜ r .len ≤ length (now (line .exit)) ⌝ }
 {
     let mut size: usize = 0;
     while size < usize::MAX {
