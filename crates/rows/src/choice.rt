@@ -20,10 +20,14 @@ pub(crate) fn answer(row: &[u8]) -> bool {
     let l = found.our_provers;
     let mut chosen = [0u32; 4];
     let refusal = menhotrac_choose_suites(&a[0..i], &b[0..j], &c[0..k], &d[0..l], &mut chosen);
+    show(refusal, &chosen);
+    true
+}
+
+fn show(refusal: u32, chosen: &[u32; 4]) {
     print::text(b"suites");
     print::number(refusal as u64);
     print::text(b" ;");
-    print::numbers(&chosen);
+    print::numbers(chosen);
     print::text(b"\n");
-    true
 }

@@ -24,6 +24,7 @@ pub(crate) fn read(
     peer_verifiers: &mut [u32],
     our_provers: &mut [u32],
 ) -> Lists
+    requires { ⌜ first ≤ 4 ⌝ }
     ensures { λ r. ⌜ r .«our_verifiers» ≤ length (now («our_verifiers» .exit)) ⌝ }
     ensures { λ r. ⌜ r .«peer_provers» ≤ length (now («peer_provers» .exit)) ⌝ }
     ensures { λ r. ⌜ r .«peer_verifiers» ≤ length (now («peer_verifiers» .exit)) ⌝ }

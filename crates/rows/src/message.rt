@@ -2,6 +2,7 @@
 use capi::menhotrac_read;
 use scan::bytes;
 use stdio::print;
+use wire::FlatMessage;
 
 // The most bytes of a group that are understood.
 pub(crate) const BYTES: usize = 32_768;
@@ -21,6 +22,10 @@ fn read(bytes: &[u8]) {
     let mut provers = [0u32; 16];
     let mut verifiers = [0u32; 16];
     let message = menhotrac_read(bytes, &mut provers, &mut verifiers);
+    show(message, &provers, &verifiers);
+}
+
+fn show(message: FlatMessage, provers: &[u32; 16], verifiers: &[u32; 16]) {
     print::text(b"message");
     print::number(message.refusal as u64);
     print::number(message.number as u64);
@@ -30,8 +35,8 @@ fn read(bytes: &[u8]) {
     print::number(message.place as u64);
     print::number(message.size as u64);
     print::text(b" ;");
-    print::numbers(&provers);
+    print::numbers(provers);
     print::text(b" ;");
-    print::numbers(&verifiers);
+    print::numbers(verifiers);
     print::text(b"\n");
 }

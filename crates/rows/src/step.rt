@@ -20,11 +20,6 @@ struct Event {
     is_understood: bool,
 }
 
-struct Answer {
-    number: u32,
-    is_understood: bool,
-}
-
 fn event_in(group: &[u8]) -> Event {
     let mut numbers = [0u32; 6];
     let first = first_numbers(group, &mut numbers);
@@ -68,66 +63,49 @@ pub(crate) fn answer(row: &[u8]) -> bool {
     }
     let m = sent.len;
     let n = kept.len;
-    let mut actions = [0u32; 16];
-    let answer = call(
+    call(
         row,
         &mut record,
         event.fields,
         &payload[0..m],
         &mut cache[0..n],
-        &mut actions,
-    );
-    if answer.is_understood {
-        show(
-            answer.number,
-            &record,
-            &actions,
-            &payload[0..m],
-            &cache[0..n],
-        );
-    }
-    answer.is_understood
+    )
 }
 
 // With the suite lists of the row.
-fn call(
+fn call<'a>(
     row: &[u8],
     record: &mut [u32; 12],
     event: FlatEvent,
-    payload: &[u8],
-    cache: &mut [u8],
-    actions: &mut [u32; 16],
-) -> Answer {
+    payload: &'a [u8],
+    cache: &'a mut [u8],
+) -> bool {
     let mut a = [0u32; ENTRIES];
     let mut b = [0u32; ENTRIES];
     let mut c = [0u32; ENTRIES];
     let mut d = [0u32; ENTRIES];
     let found = lists::read(row, 4, &mut a, &mut b, &mut c, &mut d);
     if !found.is_understood {
-        return Answer {
-            number: 0,
-            is_understood: false,
-        };
+        return false;
     }
     let i = found.our_verifiers;
     let j = found.peer_provers;
     let k = found.peer_verifiers;
     let l = found.our_provers;
-    let number = menhotrac_step(
+    let mut actions = [0u32; 16];
+    let answer = menhotrac_step(
         record,
         event,
         payload,
         cache,
-        actions,
+        &mut actions,
         &a[0..i],
         &b[0..j],
         &c[0..k],
         &d[0..l],
     );
-    Answer {
-        number,
-        is_understood: true,
-    }
+    show(answer, record, &actions, payload, cache);
+    true
 }
 
 fn show<'a>(
