@@ -1,6 +1,6 @@
 // Rows `suites`: the choice of suites.
-use crate::lists;
-use crate::lists::ENTRIES;
+use calls::lists;
+use calls::lists::ENTRIES;
 use capi::menhotrac_choose_suites;
 use scan::groups;
 use stdio::print;
@@ -27,7 +27,7 @@ pub(crate) fn answer(row: &[u8]) -> bool {
 fn show(refusal: u32, chosen: &[u32; 4]) {
     print::text(b"suites");
     print::number(refusal as u64);
-    print::text(b" ;");
+    print::semicolon();
     print::numbers(chosen);
-    print::text(b"\n");
+    print::newline();
 }

@@ -1,9 +1,7 @@
 // The worked cases as rows: each asks the library, by the functions that hosts call, and prints what they give.
 mod choice;
-mod lists;
 mod message;
 mod seconds;
-mod step;
 
 use check::same;
 use stdio::print;
@@ -30,7 +28,7 @@ pub fn answer_line(number: u64) -> bool {
     if !is_understood {
         print::text(b"error in line");
         print::number(number);
-        print::text(b"\n");
+        print::newline();
     }
     true
 }
@@ -38,18 +36,14 @@ pub fn answer_line(number: u64) -> bool {
 // Copies a line or answers a row; whether it was understood.
 fn answer(line: &[u8]) -> bool {
     if line.len() == 0 {
-        return copy(line);
+        print::newline();
+        return true;
     }
     if line[0] == HASH {
-        return copy(line);
+        print::line(line);
+        return true;
     }
     answer_row(scan::word(line), scan::after_word(line))
-}
-
-fn copy(line: &[u8]) -> bool {
-    print::text(line);
-    print::text(b"\n");
-    true
 }
 
 fn answer_row(word: &[u8], row: &[u8]) -> bool {
@@ -63,7 +57,7 @@ fn answer_row(word: &[u8], row: &[u8]) -> bool {
         return message::answer(row);
     }
     if same(word, b"step") {
-        return step::answer(row);
+        return calls::answer(row);
     }
     false
 }

@@ -1,16 +1,15 @@
 // Rows `message`: the bytes of one message.
+use calls::BYTES;
 use capi::menhotrac_read;
 use scan::bytes;
+use scan::groups;
 use stdio::print;
 use wire::FlatMessage;
 
-// The most bytes of a group that are understood.
-pub(crate) const BYTES: usize = 32_768;
-
 pub(crate) fn answer(row: &[u8]) -> bool {
     let mut buffer = [0u8; BYTES];
-    let found = bytes(row, &mut buffer);
-    if !found.is_understood {
+    let found = bytes(row, 0, &mut buffer);
+    if !(found.is_all & (groups(row) == 1)) {
         return false;
     }
     let len = found.len;
@@ -34,9 +33,9 @@ fn show(message: FlatMessage, provers: &[u32; 16], verifiers: &[u32; 16]) {
     print::number(message.verifiers as u64);
     print::number(message.place as u64);
     print::number(message.size as u64);
-    print::text(b" ;");
+    print::semicolon();
     print::numbers(provers);
-    print::text(b" ;");
+    print::semicolon();
     print::numbers(verifiers);
-    print::text(b"\n");
+    print::newline();
 }

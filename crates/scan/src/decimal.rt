@@ -6,7 +6,7 @@ use crate::item;
 
 const MINUS: u8 = 45;
 
-const LARGEST: u64 = 4_294_967_295;
+pub(crate) const LARGEST: u64 = 4_294_967_295;
 
 const LARGEST_SIGNED: u64 = 9_223_372_036_854_775_807;
 
@@ -28,9 +28,9 @@ pub struct Signed64 {
     pub is_understood: bool,
 }
 
-struct Unsigned64 {
-    value: u64,
-    is_understood: bool,
+pub(crate) struct Unsigned64 {
+    pub(crate) value: u64,
+    pub(crate) is_understood: bool,
 }
 
 // The value of a digit, decimal or hexadecimal in lower case.
@@ -45,7 +45,7 @@ pub(crate) fn digit(byte: u8) -> u32
 }
 
 // The number of one digit or more, if it is at most `most`.
-fn decimal(digits: &[u8], most: u64) -> Unsigned64
+pub(crate) fn decimal(digits: &[u8], most: u64) -> Unsigned64
     requires { ⌜ 9 ≤ most ⌝ }
     ensures { λ r. ⌜ r .value ≤ most ⌝ }
 {
@@ -72,8 +72,8 @@ fn decimal(digits: &[u8], most: u64) -> Unsigned64
     }
 }
 
-pub fn number(item: &[u8]) -> Unsigned32 {
-    let found = decimal(item, LARGEST);
+pub fn number(row: &[u8], group: usize, index: usize) -> Unsigned32 {
+    let found = decimal(item(row, group, index), LARGEST);
     Unsigned32 {
         value: found.value as u32,
         is_understood: found.is_understood,
@@ -90,7 +90,8 @@ fn minus(size: u64) -> i64
     !((size - 1) as i64)
 }
 
-pub fn signed(item: &[u8]) -> Signed64 {
+pub fn signed(row: &[u8], group: usize, index: usize) -> Signed64 {
+    let item = item(row, group, index);
     if item.len() > 0 {
         if item[0] == MINUS {
             let found = decimal(&item[1..], SMALLEST_SIGNED);
@@ -107,35 +108,22 @@ pub fn signed(item: &[u8]) -> Signed64 {
     }
 }
 
-// The first items of a group, at most as many as there is room for.
-pub fn first_numbers(group: &[u8], out: &mut [u32]) -> Entries
+// The numbers at the beginning of a group, at most as many as there is room for.
+pub fn numbers(row: &[u8], group: usize, out: &mut [u32]) -> Entries
     ensures { λ r. ⌜ r .len ≤ length (now (out .exit)) ⌝ }
 {
     for i in 0..out.len() {
-        let next = item(group, i);
-        let found = number(next);
+        let found = number(row, group, i);
         if !found.is_understood {
             return Entries {
                 len: i,
-                is_understood: next.len() == 0,
+                is_all: item(row, group, i).len() == 0,
             };
         }
         out[i] = found.value;
     }
     Entries {
         len: out.len(),
-        is_understood: true,
-    }
-}
-
-// All items of a group.
-pub fn numbers(group: &[u8], out: &mut [u32]) -> Entries
-    ensures { λ r. ⌜ r .len ≤ length (now (out .exit)) ⌝ }
-{
-    let found = first_numbers(group, out);
-    let len = found.len;
-    Entries {
-        len,
-        is_understood: found.is_understood & (item(group, len).len() == 0),
+        is_all: item(row, group, out.len()).len() == 0,
     }
 }

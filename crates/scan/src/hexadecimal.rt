@@ -2,8 +2,9 @@
 ghost use Prim.Native.Nat.{_≤_};
 ghost use lib.ListN.{length};
 use crate::Entries;
+use crate::decimal::LARGEST;
+use crate::decimal::decimal;
 use crate::decimal::digit;
-use crate::decimal::number;
 use crate::find;
 use crate::item;
 
@@ -20,23 +21,17 @@ fn repeat(out: &mut [u8], len: usize, count: usize, byte: u32) -> Entries
     ensures { λ r. ⌜ r .len ≤ length (now (out .exit)) ⌝ }
 {
     if byte > 255 {
-        return Entries {
-            len,
-            is_understood: false,
-        };
+        return Entries { len, is_all: false };
     }
     if count > out.len() - len {
-        return Entries {
-            len,
-            is_understood: false,
-        };
+        return Entries { len, is_all: false };
     }
     for i in len..len + count {
         out[i] = byte as u8;
     }
     Entries {
         len: len + count,
-        is_understood: true,
+        is_all: true,
     }
 }
 
@@ -49,7 +44,7 @@ fn digits(piece: &[u8], out: &mut [u8], len: usize) -> Entries
     let mut i = 0;
     while i + 1 < piece.len() {
         let found = repeat(out, len, 1, pair(piece[i], piece[i + 1]));
-        if !found.is_understood {
+        if !found.is_all {
             return found;
         }
         len = found.len;
@@ -57,7 +52,7 @@ fn digits(piece: &[u8], out: &mut [u8], len: usize) -> Entries
     }
     Entries {
         len,
-        is_understood: i == piece.len(),
+        is_all: i == piece.len(),
     }
 }
 
@@ -68,7 +63,7 @@ fn piece(piece: &[u8], out: &mut [u8], len: usize) -> Entries
 {
     let star = find(piece, 0, STAR);
     if star + 3 == piece.len() {
-        let count = number(&piece[0..star]);
+        let count = decimal(&piece[0..star], LARGEST);
         if count.is_understood {
             return repeat(
                 out,
@@ -81,21 +76,18 @@ fn piece(piece: &[u8], out: &mut [u8], len: usize) -> Entries
     digits(piece, out, len)
 }
 
-// The bytes of all pieces of a group.
-pub fn bytes(group: &[u8], out: &mut [u8]) -> Entries
+// The bytes of the pieces of a group.
+pub fn bytes(row: &[u8], group: usize, out: &mut [u8]) -> Entries
     ensures { λ r. ⌜ r .len ≤ length (now (out .exit)) ⌝ }
 {
     let mut len = 0;
-    for i in 0..group.len() {
-        let next = item(group, i);
+    for i in 0..row.len() {
+        let next = item(row, group, i);
         let found = piece(next, out, len);
-        if !found.is_understood | (next.len() == 0) {
+        if !found.is_all | (next.len() == 0) {
             return found;
         }
         len = found.len;
     }
-    Entries {
-        len,
-        is_understood: true,
-    }
+    Entries { len, is_all: true }
 }

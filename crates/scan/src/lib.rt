@@ -1,6 +1,6 @@
-// What stands in a line of text: a word, groups between `;`, and items between blanks.
+// What stands in a line of text: a word, and after it groups of items. Groups stand between `;`, items between blanks.
 //
-// Any bytes may be given. A number or a list that was not understood is said to be so.
+// Any bytes may be given. Where they are no number, or not all of them are understood, the answer says so.
 ghost use Prim.Native.Nat.{_≤_};
 ghost use lib.ListN.{length};
 
@@ -9,7 +9,6 @@ mod hexadecimal;
 
 pub use decimal::Signed64;
 pub use decimal::Unsigned32;
-pub use decimal::first_numbers;
 pub use decimal::number;
 pub use decimal::numbers;
 pub use decimal::signed;
@@ -19,10 +18,10 @@ const BLANK: u8 = 32;
 
 const SEMICOLON: u8 = 59;
 
-// What was read into a lent list: how many entries, and whether all that stood there was understood.
+// What was read from a group into a lent list: how many entries, and whether they are all that stands in the group.
 pub struct Entries {
     pub len: usize,
-    pub is_understood: bool,
+    pub is_all: bool,
 }
 
 // The first place from `from` on at which a byte stands, or the end.
@@ -50,32 +49,33 @@ pub fn after_word(line: &[u8]) -> &[u8] {
 }
 
 // How many groups there are: one more than there are `;`.
-pub fn groups(s: &[u8]) -> u64 {
+pub fn groups(row: &[u8]) -> u64 {
     let mut count = 1;
-    let mut at = find(s, 0, SEMICOLON);
-    while at < s.len() {
+    let mut at = find(row, 0, SEMICOLON);
+    while at < row.len() {
         count += 1;
-        at = find(s, at + 1, SEMICOLON);
+        at = find(row, at + 1, SEMICOLON);
     }
     count
 }
 
-// The group with an index, without its `;`; nothing where there are fewer groups.
-pub fn group(s: &[u8], index: usize) -> &[u8] {
+// A group without its `;`, which may be empty; nothing where there are fewer groups.
+fn group(row: &[u8], index: usize) -> &[u8] {
     let mut from = 0;
     for _ in 0..index {
-        let end = find(s, from, SEMICOLON);
-        if end == s.len() {
-            return &s[end..];
+        let end = find(row, from, SEMICOLON);
+        if end == row.len() {
+            return &row[end..];
         }
         from = end + 1;
     }
-    let end = find(s, from, SEMICOLON);
-    &s[from..end]
+    let end = find(row, from, SEMICOLON);
+    &row[from..end]
 }
 
-// The item with an index, which has a byte at least; nothing where there are fewer items.
-pub fn item(group: &[u8], index: usize) -> &[u8] {
+// An item of a group, which has a byte at least; nothing where there are fewer items.
+pub fn item(row: &[u8], group_index: usize, index: usize) -> &[u8] {
+    let group = group(row, group_index);
     let mut from = 0;
     let mut left = index;
     while from < group.len() {

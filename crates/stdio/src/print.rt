@@ -1,10 +1,24 @@
-// Text, numbers and bytes on standard output. A number, and a run of bytes, is printed after a blank.
+// Text, and items of a line, on standard output. An item is a number, a run of bytes or a `;`, and stands after a blank.
 ghost use Prim.Native.Nat.{_<_, _≤_};
 ghost use lib.ListN.{length};
 use libc::STDOUT_FILENO;
 
 pub fn text(s: &[u8]) {
     io::write_all(STDOUT_FILENO, s);
+}
+
+pub fn newline() {
+    text(b"\n");
+}
+
+pub fn line(s: &[u8]) {
+    text(s);
+    newline();
+}
+
+// Ends a group.
+pub fn semicolon() {
+    text(b" ;");
 }
 
 pub fn number(n: u64) {

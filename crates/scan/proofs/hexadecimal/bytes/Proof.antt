@@ -7,10 +7,10 @@ use Rattle.scan.proofs.hexadecimal.bytes.Statement.{statement}
 use Rattle.scan.proofs.hexadecimal.bytes.Tie as tie
 
 abbrev Inv-loop : tie.InvT-loop
-Inv-loop group out₀ len₀ i₀ i-end out len i = (i ≤ i-end) × (len ≤ length out) × (length out ≡ length out₀)
+Inv-loop row group out₀ len₀ i₀ i-end out len i = (i ≤ i-end) × (len ≤ length out) × (length out ≡ length out₀)
 
 abbrev μ-loop : tie.MeasureT-loop
-μ-loop group out₀ len₀ i₀ i-end out len i = i-end - i
+μ-loop row group out₀ len₀ i₀ i-end out len i = i-end - i
 
 pub bytes-spec : {M : Type 1} → statement M
 bytes-spec =

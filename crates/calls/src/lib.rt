@@ -1,63 +1,65 @@
-// Rows `step`: one call of the step.
-use crate::lists;
+// Rows `step`: each is one call of the step.
+pub mod lists;
+
 use crate::lists::ENTRIES;
-use crate::message::BYTES;
 use capi::FlatEvent;
 use capi::menhotrac_step;
 use connection::part;
 use flat::actions_in;
 use scan::bytes;
-use scan::first_numbers;
-use scan::group;
 use scan::groups;
 use scan::item;
 use scan::numbers;
 use scan::signed;
 use stdio::print;
 
+// The most bytes of a group that are understood.
+pub const BYTES: usize = 32_768;
+
 struct Event {
     fields: FlatEvent,
     is_understood: bool,
 }
 
-fn event_in(group: &[u8]) -> Event {
-    let mut numbers = [0u32; 6];
-    let first = first_numbers(group, &mut numbers);
-    let expiry = signed(item(group, 6));
-    let at = signed(item(group, 7));
-    let rest = item(group, 8);
+// The event that is group 1.
+fn event_in(row: &[u8]) -> Event {
+    let mut fields = [0u32; 6];
+    let first = numbers(row, 1, &mut fields);
+    let expiry = signed(row, 1, 6);
+    let at = signed(row, 1, 7);
     Event {
         fields: FlatEvent {
-            code: numbers[0],
-            tag: numbers[1],
-            timer: numbers[2],
-            bit: numbers[3],
-            verdict: numbers[4],
-            margin: numbers[5],
+            code: fields[0],
+            tag: fields[1],
+            timer: fields[2],
+            bit: fields[3],
+            verdict: fields[4],
+            margin: fields[5],
             expiry: expiry.value,
             now: at.value,
         },
-        is_understood: first.is_understood
+        is_understood: (first.len == 6)
             & expiry.is_understood
             & at.is_understood
-            & (rest.len() == 0),
+            & (item(row, 1, 8).len() == 0),
     }
 }
 
-pub(crate) fn answer(row: &[u8]) -> bool {
+// Answers a row, which is what follows the word; false where it is not understood.
+pub fn answer(row: &[u8]) -> bool {
     let mut record = [0u32; 12];
     let mut payload = [0u8; BYTES];
     let mut cache = [0u8; BYTES];
-    let fields = numbers(group(row, 0), &mut record);
-    let event = event_in(group(row, 1));
-    let sent = bytes(group(row, 2), &mut payload);
-    let kept = bytes(group(row, 3), &mut cache);
-    let is_understood = (groups(row) == 8)
-        & fields.is_understood
-        & (fields.len == 12)
+    let fields = numbers(row, 0, &mut record);
+    let event = event_in(row);
+    let sent = bytes(row, 2, &mut payload);
+    let kept = bytes(row, 3, &mut cache);
+    let is_understood = (fields.len == 12)
+        & fields.is_all
         & event.is_understood
-        & sent.is_understood
-        & kept.is_understood;
+        & sent.is_all
+        & kept.is_all
+        & (groups(row) == 8);
     if !is_understood {
         return false;
     }
@@ -72,7 +74,7 @@ pub(crate) fn answer(row: &[u8]) -> bool {
     )
 }
 
-// With the suite lists of the row.
+// With the suite lists that are the groups from 4 on.
 fn call<'a>(
     row: &[u8],
     record: &mut [u32; 12],
@@ -117,13 +119,13 @@ fn show<'a>(
 ) {
     print::text(b"step");
     print::number(answer as u64);
-    print::text(b" ;");
+    print::semicolon();
     print::numbers(record);
-    print::text(b" ;");
+    print::semicolon();
     print::numbers(actions);
-    print::text(b" ;");
+    print::semicolon();
     print::bytes(part(actions_in(actions), payload, cache));
-    print::text(b" ;");
+    print::semicolon();
     print::bytes(cache);
-    print::text(b"\n");
+    print::newline();
 }
