@@ -4,19 +4,19 @@ ghost use lib.ListN.{length};
 use scan::numbers;
 
 // The most entries of a list that are understood.
-pub const ENTRIES: usize = 32;
+pub(crate) const ENTRIES: usize = 32;
 
-// How many entries each list has, and whether all are numbers.
-pub struct Lists {
-    pub our_verifiers: usize,
-    pub peer_provers: usize,
-    pub peer_verifiers: usize,
-    pub our_provers: usize,
-    pub is_understood: bool,
+// How many entries each list has, and whether all four were understood.
+pub(crate) struct Lists {
+    pub(crate) our_verifiers: usize,
+    pub(crate) peer_provers: usize,
+    pub(crate) peer_verifiers: usize,
+    pub(crate) our_provers: usize,
+    pub(crate) is_understood: bool,
 }
 
 // Reads four groups, of which the first has an index.
-pub fn read(
+pub(crate) fn read(
     row: &[u8],
     first: u32,
     our_verifiers: &mut [u32],

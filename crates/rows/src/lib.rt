@@ -1,8 +1,9 @@
-// The worked cases as rows: each asks the library, by the functions that hosts call, and prints what they give.
-mod choice;
+// Lines of worked cases. A line is copied, or it is a row, which asks the library and is answered.
 mod message;
 mod seconds;
 
+use calls::choice;
+use calls::step;
 use check::same;
 use stdio::print;
 use stdio::read_line;
@@ -10,9 +11,9 @@ use stdio::read_line;
 // The bytes of the longest line that is understood.
 const LINE: usize = 4_096;
 
-const HASH: u8 = 35;
+const HASH: u8 = b'#';
 
-// Answers the next line of standard input, which has a number; false where there is none.
+// Reads and answers the next line of standard input; `number` is the line's. False where the input has ended.
 pub fn answer_line(number: u64) -> bool {
     let mut line = [0u8; LINE];
     let found = read_line(&mut line);
@@ -57,7 +58,7 @@ fn answer_row(word: &[u8], row: &[u8]) -> bool {
         return message::answer(row);
     }
     if same(word, b"step") {
-        return calls::answer(row);
+        return step::answer(row);
     }
     false
 }

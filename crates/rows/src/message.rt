@@ -4,7 +4,6 @@ use capi::menhotrac_read;
 use scan::bytes;
 use scan::groups;
 use stdio::print;
-use wire::FlatMessage;
 
 pub(crate) fn answer(row: &[u8]) -> bool {
     let mut buffer = [0u8; BYTES];
@@ -21,10 +20,6 @@ fn read(bytes: &[u8]) {
     let mut provers = [0u32; 16];
     let mut verifiers = [0u32; 16];
     let message = menhotrac_read(bytes, &mut provers, &mut verifiers);
-    show(message, &provers, &verifiers);
-}
-
-fn show(message: FlatMessage, provers: &[u32; 16], verifiers: &[u32; 16]) {
     print::text(b"message");
     print::number(message.refusal as u64);
     print::number(message.number as u64);
@@ -33,6 +28,10 @@ fn show(message: FlatMessage, provers: &[u32; 16], verifiers: &[u32; 16]) {
     print::number(message.verifiers as u64);
     print::number(message.place as u64);
     print::number(message.size as u64);
+    show_suites(&provers, &verifiers);
+}
+
+fn show_suites(provers: &[u32; 16], verifiers: &[u32; 16]) {
     print::semicolon();
     print::numbers(provers);
     print::semicolon();

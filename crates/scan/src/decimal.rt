@@ -1,10 +1,10 @@
-// Unsigned64 numbers.
+// Decimal numbers.
 ghost use Prim.Native.Nat.{_≤_};
 ghost use lib.ListN.{length};
 use crate::Entries;
 use crate::item;
 
-const MINUS: u8 = 45;
+const MINUS: u8 = b'-';
 
 pub(crate) const LARGEST: u64 = 4_294_967_295;
 
@@ -13,7 +13,7 @@ const LARGEST_SIGNED: u64 = 9_223_372_036_854_775_807;
 // How far the smallest signed number is from 0.
 const SMALLEST_SIGNED: u64 = 9_223_372_036_854_775_808;
 
-// What a byte that is no digit counts as: more than two hexadecimal digits can be.
+// What any other byte counts as: more than two hexadecimal digits can be.
 const NO_DIGIT: u32 = 256;
 
 // An unsigned 32-bit number; 0 where it was not understood.
@@ -33,18 +33,18 @@ pub(crate) struct Unsigned64 {
     pub(crate) is_understood: bool,
 }
 
-// The value of a digit, decimal or hexadecimal in lower case.
+// The value of a decimal digit or of a hexadecimal one in lower case.
 pub(crate) fn digit(byte: u8) -> u32
     ensures { λ r. ⌜ r ≤ 256 ⌝ }
 {
     match byte {
-        48..=57 => byte as u32 - 48,
-        97..=102 => byte as u32 - 87,
+        b'0'..=b'9' => byte as u32 - 48,
+        b'a'..=b'f' => byte as u32 - 87,
         _ => NO_DIGIT,
     }
 }
 
-// The number of one digit or more, if it is at most `most`.
+// The number that one digit or more are, if it is at most `most`.
 pub(crate) fn decimal(digits: &[u8], most: u64) -> Unsigned64
     requires { ⌜ 9 ≤ most ⌝ }
     ensures { λ r. ⌜ r .value ≤ most ⌝ }
@@ -80,7 +80,8 @@ pub fn number(row: &[u8], group: usize, index: usize) -> Unsigned32 {
     }
 }
 
-// Minus a number, which is the complement of the number before it.
+// Minus a number is the complement of the number before it. So the smallest signed number is formed, whose opposite
+// doesn't fit.
 fn minus(size: u64) -> i64
     requires { ⌜ size ≤ 9223372036854775808 ⌝ }
 {

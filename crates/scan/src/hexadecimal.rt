@@ -8,15 +8,15 @@ use crate::decimal::digit;
 use crate::find;
 use crate::item;
 
-const STAR: u8 = 42;
+const STAR: u8 = b'*';
 
 // Two digits; at most 255 just where both are digits.
 fn pair(high: u8, low: u8) -> u32 {
     digit(high) * 16 + digit(low)
 }
 
-// Writes a byte so many times after the first `len` bytes, if it is one and there is room.
-fn repeat(out: &mut [u8], len: usize, count: usize, byte: u32) -> Entries
+// Writes a byte `count` times after the first `len` bytes of a list, if it is one and there is room.
+fn write_repeated(out: &mut [u8], len: usize, count: usize, byte: u32) -> Entries
     requires { ⌜ len ≤ length (now out) ⌝ }
     ensures { λ r. ⌜ r .len ≤ length (now (out .exit)) ⌝ }
 {
@@ -35,29 +35,29 @@ fn repeat(out: &mut [u8], len: usize, count: usize, byte: u32) -> Entries
     }
 }
 
-// Writes the bytes of an even number of digits.
-fn digits(piece: &[u8], out: &mut [u8], len: usize) -> Entries
+// Writes the bytes of digits, of which there must be an even number.
+fn write_digits(digits: &[u8], out: &mut [u8], len: usize) -> Entries
     requires { ⌜ len ≤ length (now out) ⌝ }
     ensures { λ r. ⌜ r .len ≤ length (now (out .exit)) ⌝ }
 {
-    let mut len = len;
+    let mut end = len;
     let mut i = 0;
-    while i + 1 < piece.len() {
-        let found = repeat(out, len, 1, pair(piece[i], piece[i + 1]));
-        if !found.is_all {
-            return found;
+    while i + 1 < digits.len() {
+        let written = write_repeated(out, end, 1, pair(digits[i], digits[i + 1]));
+        if !written.is_all {
+            return written;
         }
-        len = found.len;
+        end = written.len;
         i += 2;
     }
     Entries {
-        len,
-        is_all: i == piece.len(),
+        len: end,
+        is_all: i == digits.len(),
     }
 }
 
-// Writes the bytes of one piece.
-fn piece(piece: &[u8], out: &mut [u8], len: usize) -> Entries
+// Writes the bytes of a piece: COUNT*BYTE, or digits.
+fn write_piece(piece: &[u8], out: &mut [u8], len: usize) -> Entries
     requires { ⌜ len ≤ length (now out) ⌝ }
     ensures { λ r. ⌜ r .len ≤ length (now (out .exit)) ⌝ }
 {
@@ -65,7 +65,7 @@ fn piece(piece: &[u8], out: &mut [u8], len: usize) -> Entries
     if star + 3 == piece.len() {
         let count = decimal(&piece[0..star], LARGEST);
         if count.is_understood {
-            return repeat(
+            return write_repeated(
                 out,
                 len,
                 count.value as usize,
@@ -73,21 +73,21 @@ fn piece(piece: &[u8], out: &mut [u8], len: usize) -> Entries
             );
         }
     }
-    digits(piece, out, len)
+    write_digits(piece, out, len)
 }
 
-// The bytes of the pieces of a group.
+// The bytes of the pieces of a group, one after the other.
 pub fn bytes(row: &[u8], group: usize, out: &mut [u8]) -> Entries
     ensures { λ r. ⌜ r .len ≤ length (now (out .exit)) ⌝ }
 {
     let mut len = 0;
     for i in 0..row.len() {
-        let next = item(row, group, i);
-        let found = piece(next, out, len);
-        if !found.is_all | (next.len() == 0) {
-            return found;
+        let piece = item(row, group, i);
+        let written = write_piece(piece, out, len);
+        if !written.is_all | (piece.len() == 0) {
+            return written;
         }
-        len = found.len;
+        len = written.len;
     }
     Entries { len, is_all: true }
 }

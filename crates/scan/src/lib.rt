@@ -14,9 +14,9 @@ pub use decimal::numbers;
 pub use decimal::signed;
 pub use hexadecimal::bytes;
 
-const BLANK: u8 = 32;
+const BLANK: u8 = b' ';
 
-const SEMICOLON: u8 = 59;
+const SEMICOLON: u8 = b';';
 
 // What was read from a group into a lent list: how many entries, and whether they are all that stands in the group.
 pub struct Entries {

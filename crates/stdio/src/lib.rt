@@ -6,7 +6,7 @@ pub mod print;
 
 use libc::STDIN_FILENO;
 
-const NEWLINE: u8 = 10;
+const NEWLINE: u8 = b'\n';
 
 // A line that was asked for: how many of its bytes are in the buffer, whether it has more, and whether the input had ended
 // instead.
