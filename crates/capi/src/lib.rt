@@ -15,9 +15,9 @@ ghost use Rattle.flat.specs.Flat.{numbersOf, recordIn};
 ghost use Rattle.record.specs.WellFormed as spec;
 ghost use Rattle.suites.specs.Choice.{choice};
 ghost use Rattle.token.specs.Answer.{timeLeft};
-ghost use Rattle.wire.specs.Flat.{flatIn, readingBy};
-ghost use Rattle.wire.specs.Message.{readingOf};
-ghost use Rattle.wire.specs.Numbers.{proversAfter, verifiersAfter};
+ghost use Rattle.messages.specs.Flat.{flatIn, readingBy};
+ghost use Rattle.messages.specs.Outer.{readingOf};
+ghost use Rattle.fields.specs.Contents.{proversAfter, verifiersAfter};
 
 mod answer;
 mod choice;
@@ -33,10 +33,10 @@ use connection::refusals;
 use connection::step_flat;
 use flat::numbers_of;
 use inbound::code_of;
+use messages::FlatMessage;
+use messages::read_flat;
 use suites::choose;
 use token::seconds_left;
-use wire::FlatMessage;
-use wire::read_flat;
 
 const YES: u32 = 1;
 

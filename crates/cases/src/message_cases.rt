@@ -1,6 +1,6 @@
 // Messages read from bytes.
 use crate::print;
-use wire::read_flat;
+use messages::read_flat;
 
 pub(crate) fn run() {
     print::heading(b"messages: refusal, number; place, size, bit; prover suites; verifier suites");

@@ -148,12 +148,7 @@ pub(crate) fn hello_in(
     let end = start + size;
     let mut peer_provers = [0; 16];
     let mut peer_verifiers = [0; 16];
-    let read = read_hello(
-        &bytes[..end],
-        start,
-        &mut peer_provers,
-        &mut peer_verifiers,
-    );
+    let read = read_hello(&bytes[..end], start, &mut peer_provers, &mut peer_verifiers);
     match read {
         Hello::Fault(refusal) => Contents::Fault(refusal),
         Hello::Read(held) => {

@@ -57,8 +57,9 @@ fn part_field(message: u32, key: u32, bytes: &[u8], next: usize, bytes_read: boo
     requires { ⌜ (message ≡ 1 → ⊥) × (message < 8) ⌝ }
     ensures { λ r. ⌜ ((bit : Bool) → PlainKey message key (now (bytes .entry)) next (plainMarks «bytes_read» bit) r) ⌝ }
 {
-    let has_part =
-        (message == schema::DAT) | (message == schema::RA_PROVER) | (message == schema::RA_VERIFIER);
+    let has_part = (message == schema::DAT)
+        | (message == schema::RA_PROVER)
+        | (message == schema::RA_VERIFIER);
     if has_part & (key == keys::BYTES) & !bytes_read {
         return bytes_at(bytes, next);
     }
@@ -76,8 +77,8 @@ fn data_field(key: u32, bytes: &[u8], next: usize, bytes_read: bool, bit_read: b
         return bit_at(bytes, next);
     }
     let field = key / schema::WIRE_TYPES;
-    let expected =
-        ((field == schema::BYTES) & !bytes_read) | ((field == schema::DATA_BIT) & !bit_read);
+    let expected = ((field == schema::BYTES) & !bytes_read)
+        | ((field == schema::DATA_BIT) & !bit_read);
     Field::Fault(misfit(expected))
 }
 
