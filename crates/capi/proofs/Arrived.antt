@@ -9,10 +9,12 @@ use Rattle.connection.specs.Also.{resultAlso}
 use Rattle.flat.specs.Flat.{recordIn}
 use Rattle.inbound.specs.Arrival.{alsoOf, codeOf}
 use Rattle.inbound.specs.Received.{Given, callFrom, given, received, receivedAs}
-use Rattle.wire.proofs.Lengths.{all-there}
+use Rattle.messages.proofs.Lengths.{all-there}
 use Rattle.wire.specs.Fault.{Reading, readAs, refused}
-use Rattle.wire.specs.Message.{Message, made, readingOf}
-use Rattle.wire.specs.Numbers.{entries, partOf}
+use Rattle.fields.specs.Message.{Message, made}
+use Rattle.messages.specs.Outer.{readingOf}
+use Rattle.messages.specs.Numbers.{partOf}
+use Rattle.wire.specs.Lists.{entries}
 use Rattle.interface.specs.Event.{flatEventWith}
 use Rattle.capi.specs.Arrived.{JoinedToStep, tokenOf, tokenRefusal}
 use Rattle.capi.specs.Returned.{returned, returnedOf}

@@ -4,10 +4,11 @@ use mathlib.Core.List.{List}
 use Prim.Native.Nat.{ℕ, _+_, _≤_}
 use native.Mathlib.Omega.{arith}
 use lib.ListN.{length}
-use Rattle.wire.proofs.Laws.{part-lies}
+use Rattle.messages.proofs.Laws.{part-lies}
 use Rattle.wire.specs.Fault.{Reading, readAs, refused}
-use Rattle.wire.specs.Flat.{flatIn}
-use Rattle.wire.specs.Message.{Message, readingOf}
+use Rattle.messages.specs.Flat.{flatIn}
+use Rattle.fields.specs.Message.{Message}
+use Rattle.messages.specs.Outer.{readingOf}
 
 -- The token or payload lies in the bytes.
 pub lies : (bytes : List ℕ) → flatIn (readingOf bytes) .place + flatIn (readingOf bytes) .size ≤ length bytes

@@ -11,9 +11,9 @@ use Rattle.inbound.specs.Received.{given, received}
 use Rattle.inbound.specs.declared.Token.{Token}
 use Rattle.protocol.specs.Step.{resultWith, unchanged}
 use Rattle.protocol.specs.declared.Answer.the-variants.{Refused}
-use Rattle.wire.specs.Flat.{readingBy}
-use Rattle.wire.specs.Message.{readingOf}
-use Rattle.wire.specs.declared.flat.FlatMessage.{FlatMessage}
+use Rattle.messages.specs.Flat.{readingBy}
+use Rattle.messages.specs.Outer.{readingOf}
+use Rattle.messages.specs.declared.flat.FlatMessage.{FlatMessage}
 use Rattle.capi.specs.Returned.{returned, returnedOf}
 use Rattle.interface.specs.Event.{flatEventWith}
 use Rattle.interface.specs.Verdict.{refusedVerdict}

@@ -14,9 +14,9 @@ ghost use Rattle.interface.specs.Event.{flatEventWith};
 ghost use Rattle.record.specs.WellFormed as spec;
 ghost use Rattle.suites.specs.Choice.{choice};
 ghost use Rattle.token.specs.Answer.{timeLeft};
-ghost use Rattle.wire.specs.Flat.{flatIn, readingBy};
-ghost use Rattle.wire.specs.Message.{readingOf};
-ghost use Rattle.wire.specs.Numbers.{proversAfter, verifiersAfter};
+ghost use Rattle.messages.specs.Flat.{flatIn, readingBy};
+ghost use Rattle.messages.specs.Outer.{readingOf};
+ghost use Rattle.fields.specs.Contents.{proversAfter, verifiersAfter};
 use connection::fresh;
 use connection::step_flat;
 use flat::numbers_of;
@@ -29,10 +29,10 @@ use interface::event_in;
 use interface::event_of;
 use interface::refused_as;
 use interface::time;
+use messages::FlatMessage;
+use messages::read_flat;
 use suites::choose;
 use token::seconds_left;
-use wire::FlatMessage;
-use wire::read_flat;
 
 // The record of a new connection.
 #[no_mangle]

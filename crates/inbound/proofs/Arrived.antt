@@ -10,13 +10,15 @@ use Rattle.event.specs.Call.{callOf}
 use Rattle.protocol.specs.Step.{resultWith, unchanged}
 use Rattle.protocol.specs.declared.Answer.the-variants.{Refused}
 use Rattle.record.specs.declared.Connection.{Connection}
-use Rattle.wire.proofs.Lengths.{all-there}
+use Rattle.messages.proofs.Lengths.{all-there}
 use Rattle.wire.specs.Fault.{Reading, readAs, refused}
-use Rattle.wire.specs.Flat.{readingBy}
-use Rattle.wire.specs.Message.{made, readingOf}
-use Rattle.wire.specs.Message as spec
-use Rattle.wire.specs.Numbers.{entries, partOf}
-use Rattle.wire.specs.declared.flat.FlatMessage.{FlatMessage}
+use Rattle.messages.specs.Flat.{readingBy}
+use Rattle.fields.specs.Message.{made}
+use Rattle.messages.specs.Outer.{readingOf}
+use Rattle.fields.specs.Message as spec
+use Rattle.wire.specs.Lists.{entries}
+use Rattle.messages.specs.Numbers.{partOf}
+use Rattle.messages.specs.declared.flat.FlatMessage.{FlatMessage}
 use Rattle.inbound.specs.Arrival.{alsoOf, codeOf, eventOf, firstEntries}
 use Rattle.inbound.specs.Received.{Given, placeIn, received, receivedAs}
 

@@ -7,8 +7,9 @@ use Rattle.protocol.specs.Step.{Result, resultWith, unchanged}
 use Rattle.protocol.specs.declared.Answer.the-variants.{Refused}
 use Rattle.record.specs.declared.Connection.{Connection}
 use Rattle.wire.specs.Fault.{Reading, readAs, refused}
-use Rattle.wire.specs.Message.{Message, readingOf}
-use Rattle.wire.specs.Numbers.{partOf}
+use Rattle.fields.specs.Message.{Message}
+use Rattle.messages.specs.Outer.{readingOf}
+use Rattle.messages.specs.Numbers.{partOf}
 use Rattle.inbound.specs.Arrival.{alsoOf, eventOf}
 use Rattle.inbound.specs.declared.Token.{Token}
 

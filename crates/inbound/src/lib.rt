@@ -1,7 +1,7 @@
 // A message that arrived, given to the step. The host hands over the bytes, what it says of the token, and its own lists.
 ghost use mathlib.Core.Path.{_≡_};
 ghost use Rattle.flat.specs.Flat.{recordIn, slotsOf};
-ghost use Rattle.wire.specs.Message.{readingOf};
+ghost use Rattle.messages.specs.Outer.{readingOf};
 ghost use Rattle.inbound.specs.Arrival.{alsoOf, codeOf, eventOf, eventWith, firstEntries};
 ghost use Rattle.inbound.specs.Received.{given, placeIn, received};
 use connection::Answer;
@@ -11,10 +11,10 @@ use connection::refusals;
 use connection::step_flat;
 use effects::NO_ACTIONS;
 use flat::slots_of;
-use wire::Span;
-use wire::part;
-use wire::read_flat;
-use wire::schema;
+use messages::Span;
+use messages::part;
+use messages::read_flat;
+use messages::schema;
 
 // A code that no event has: a step with it is refused.
 const NO_EVENT: u32 = 24;

@@ -1,20 +1,18 @@
 -- The outer field: which message it holds, and where.
-use mathlib.Core.Path.{_≡_, refl, sym, _∙_}
-use mathlib.Core.Bool.{Bool, true, false, cond, not, _&&_, _||_, or-false}
+use mathlib.Core.Path.{_≡_, refl, sym}
+use mathlib.Core.Bool.{Bool, true, false, _||_}
 use mathlib.Core.List.{List, [], _∷_}
 use Prim.Native.Nat.{ℕ, _≤_}
 use native.Mathlib.Omega.{arith}
-use borrow.Author.Tests.{leb-false, leb-true, le-leb, lt-leb, ltb-false, ltb-true}
-use lib.Dec.{eqb, leb, ltb}
+use borrow.Author.Tests.{leb-false, leb-true, le-leb, lt-leb, ltb-false, ltb-true, ne-eqb}
+use lib.Dec.{leb, ltb}
 use lib.ListN.{length}
 use Rattle.wire.specs.Varint.{value, fault, numberAt}
-use Rattle.wire.specs.Layout.{blockAt, fieldNumber, wireType}
-use Rattle.wire.specs.Fault.{Fault, leftmost, refused}
+use Rattle.wire.specs.Layout.{fieldNumber, wireType}
+use Rattle.wire.specs.Fault.{leftmost, refused}
 use Rattle.wire.proofs.Order.{absurd-bool}
-use Rattle.fields.specs.Schema.{Form, Unknown, Bytes, outerForm, isUnknown, wrongType}
-use Rattle.fields.specs.Faults.{ofInner}
+use Rattle.fields.specs.Schema.{Unknown, Bytes, outerForm}
 use Rattle.fields.specs.Message.{readingAt}
-use Rattle.fields.proofs.FieldSteps.{unexpected, wrongly-typed, announced}
 use Rattle.messages.specs.Outer.{ofOuter, faultsOf, readingOf}
 
 pub no-bytes : (bytes : List ℕ) → length bytes ≡ 0 → readingOf bytes ≡ refused 22
@@ -57,20 +55,15 @@ module _ (bytes : List ℕ) (h : length bytes ≡ 0 → ⊥) where
   outer-faulty refusal e = rw (some-bytes bytes h, e)
 
   module _ (key next : ℕ) (e : numberAt bytes 0 ≡ value key next) where
-    abbrev inside : List Fault
-    inside = ofInner (fieldNumber key) bytes next (blockAt bytes next)
-
     pub outer-unexpected : (ltb key 8 || leb 80 key) ≡ true → readingOf bytes ≡ refused 22
-    unfolding readingOf
-    outer-unexpected t = rw (some-bytes bytes h, e, no-message key t) (unexpected _ 0 inside true false refl)
+    unfolding readingOf leftmost
+    outer-unexpected t = rw (some-bytes bytes h, e, no-message key t)
 
     module _ (t : (ltb key 8 || leb 80 key) ≡ false) where
-      pub outer-mistyped : not (eqb (wireType key) 2) ≡ true → readingOf bytes ≡ refused 23
-      unfolding readingOf
-      outer-mistyped w =
-          rw (some-bytes bytes h, e, a-message key (known key t))
-          (wrongly-typed _ 0 inside false (not (eqb (wireType key) 2)) refl w)
+      pub outer-mistyped : (wireType key ≡ 2 → ⊥) → readingOf bytes ≡ refused 23
+      unfolding readingOf leftmost
+      outer-mistyped w = rw (some-bytes bytes h, e, a-message key (known key t), ne-eqb (wireType key) 2 w)
 
-      pub outer-located : not (eqb (wireType key) 2) ≡ false → readingOf bytes ≡ readingAt (fieldNumber key) bytes next
+      pub outer-located : wireType key ≡ 2 → readingOf bytes ≡ readingAt (fieldNumber key) bytes next
       unfolding readingOf readingAt
-      outer-located w = rw (some-bytes bytes h, e, a-message key (known key t), announced 0 inside false (not (eqb (wireType key) 2)) refl w)
+      outer-located w = rw (some-bytes bytes h, e, a-message key (known key t), w)

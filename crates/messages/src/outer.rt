@@ -34,10 +34,10 @@ fn outer_field(bytes: &[u8]) -> Outer
             if (key < FIRST_KEY) | (key >= PAST_KEYS) {
                 return Outer::Fault(Refusal::UnexpectedField);
             }
-            if !(key % schema::WIRE_TYPES == schema::LENGTH_DELIMITED) {
-                return Outer::Fault(Refusal::WrongWireType);
+            if key % schema::WIRE_TYPES == schema::LENGTH_DELIMITED {
+                return Outer::Message(key / schema::WIRE_TYPES, next);
             }
-            Outer::Message(key / schema::WIRE_TYPES, next)
+            Outer::Fault(Refusal::WrongWireType)
         }
     }
 }

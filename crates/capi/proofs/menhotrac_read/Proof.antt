@@ -4,7 +4,7 @@ use Prim.Native.Nat.{_+_, _≤_}
 use lib.ListN.{length}
 use denote.Ref.{now}
 use borrow.Author.Needs.{needs}
-use Rattle.wire.specs.declared.flat.FlatMessage.{FlatMessage}
+use Rattle.messages.specs.declared.flat.FlatMessage.{FlatMessage}
 use Rattle.capi.proofs.Read.{lies}
 use Rattle.capi.proofs.menhotrac_read.Statement.{statement}
 use Rattle.capi.proofs.menhotrac_read.Tie as tie

@@ -12,11 +12,11 @@ use Rattle.event.specs.declared.Event.{Event}
 use Rattle.flat.specs.Flat.{recordIn, slotsOf}
 use Rattle.protocol.specs.Step.{Result}
 use Rattle.connection.specs.Also.{resultAlso}
-use Rattle.wire.specs.Message.{readingOf}
-use Rattle.wire.specs.Numbers.{entries}
-use Rattle.wire.specs.declared.flat.FlatMessage.{FlatMessage}
+use Rattle.messages.specs.Outer.{readingOf}
+use Rattle.wire.specs.Lists.{entries}
+use Rattle.messages.specs.declared.flat.FlatMessage.{FlatMessage}
 use Rattle.inbound.specs.Arrival.{firstEntries}
-use Rattle.wire.proofs.Lengths.{provers-16, verifiers-16}
+use Rattle.messages.proofs.Lengths.{provers-16, verifiers-16}
 use Rattle.inbound.specs.Received.{given, received}
 use Rattle.inbound.proofs.Arrived.{arrived-refused, refused-place, arrived-read, read-place, first-entries}
 

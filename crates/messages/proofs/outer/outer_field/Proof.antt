@@ -18,15 +18,15 @@ returns-2 : tie.Need-returns-2
 returns-2 c = let s = c .before .before in outer-unexpected _ (s .before .before .before .if1 .left) _ _ (key-read s) (c .if2 .taken)
 
 returns-3 : tie.Need-returns-3
-returns-3 c = let s = c .before .before .before in outer-mistyped _ (s .before .before .before .if1 .left) _ _ (key-read s) (c .before .if2 .left) (c .if3 .taken)
+returns-3 c =
+    let s = c .before .before .before in
+    (known _ (c .before .if2 .left), outer-located _ (s .before .before .before .if1 .left) _ _ (key-read s) (c .before .if2 .left) (c .if3 .taken))
 
 returns-4 : tie.Need-returns-4
 returns-4 c = outer-faulty _ (c .before .before .before .before .if1 .left) _ (sym (c .before .before .before .number .ensures) ∙ ap numberOf (c .before .key .given .1))
 
 returns-5 : tie.Need-returns-5
-returns-5 c =
-    let s = c .before .before .before in
-    (known _ (c .before .if2 .left), outer-located _ (s .before .before .before .if1 .left) _ _ (key-read s) (c .before .if2 .left) (c .if3 .left))
+returns-5 c = let s = c .before .before .before in outer-mistyped _ (s .before .before .before .if1 .left) _ _ (key-read s) (c .before .if2 .left) (c .if3 .left)
 
 pub outer-field-spec : {M : Type 1} → statement M
 outer-field-spec =
