@@ -1,9 +1,8 @@
 // Lines of worked cases. A line is copied, or it is a row, which asks the library and is answered.
+mod choice;
 mod message;
 mod seconds;
 
-use calls::choice;
-use calls::step;
 use check::same;
 use stdio::print;
 use stdio::read_line;
@@ -58,7 +57,7 @@ fn answer_row(word: &[u8], row: &[u8]) -> bool {
         return message::answer(row);
     }
     if same(word, b"step") {
-        return step::answer(row);
+        return calls::answer(row);
     }
     false
 }

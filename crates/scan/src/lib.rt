@@ -43,6 +43,7 @@ pub fn word(line: &[u8]) -> &[u8] {
     &line[0..end]
 }
 
+// What follows the word.
 pub fn after_word(line: &[u8]) -> &[u8] {
     let end = find(line, 0, BLANK);
     &line[end..]

@@ -8,8 +8,7 @@ use libc::STDIN_FILENO;
 
 const NEWLINE: u8 = b'\n';
 
-// A line that was asked for: how many of its bytes are in the buffer, whether it has more, and whether the input had ended
-// instead.
+// The next line: how many of its bytes were stored, whether it has more, and whether there was none.
 pub struct Line {
     pub len: usize,
     pub is_too_long: bool,
@@ -21,6 +20,7 @@ struct Byte {
     is_missing: bool,
 }
 
+// One byte for each call of C's read, so that nothing of the input is kept between lines.
 fn next_byte() -> Byte {
     let mut byte = [0u8; 1];
     let count = io::read_full(STDIN_FILENO, &mut byte);
@@ -37,7 +37,7 @@ fn put(line: &mut [u8], at: usize, byte: u8) {
     }
 }
 
-// A line of `size` bytes in its buffer.
+// A line of `size` bytes, of which the first are in a buffer.
 fn line_in(line: &[u8], size: usize, is_missing: bool) -> Line
     ensures { λ r. ⌜ r .len ≤ length (now (line .entry)) ⌝ }
 {
@@ -56,7 +56,7 @@ fn line_in(line: &[u8], size: usize, is_missing: bool) -> Line
 }
 
 // Reads the next line into a buffer, without its newline. A line that is longer than the buffer is read to its end.
-// No contract of C's read says that a line ends, so its bytes are counted.
+// Nothing says that a line ends, so its bytes are counted.
 pub fn read_line(line: &mut [u8]) -> Line
     ensures { λ r. ⌜ r .len ≤ length (now (line .exit)) ⌝ }
 {

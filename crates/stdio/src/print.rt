@@ -16,7 +16,7 @@ pub fn line(s: &[u8]) {
     newline();
 }
 
-// Ends a group.
+// Between two groups.
 pub fn semicolon() {
     text(b" ;");
 }
@@ -26,7 +26,7 @@ pub fn number(n: u64) {
     io::print_decimal(STDOUT_FILENO, n);
 }
 
-// A number below 0 is 1 more than its complement away from 0. The smallest number has no opposite in 64 bits.
+// The size of a number below 0 is 1 more than its complement. The smallest number has no opposite in 64 bits.
 pub fn signed(z: i64) {
     if z < 0 {
         text(b" -");
