@@ -1,4 +1,4 @@
--- `moves::move_on` meets its contract.
+-- `dispatch::move_on` meets its contract.
 use mathlib.Core.Path.{_≡_, sym, subst}
 use mathlib.Core.Logic.{inl, inr}
 use mathlib.Core.Bool.{Bool}
@@ -11,8 +11,8 @@ use Rattle.effects.proofs.ByTest.{true-or-false}
 use Rattle.flat.proofs.Written.{as-written}
 use Rattle.table.specs.Sets.{isIn}
 use Rattle.table.proofs.Arms.{Rest, one-of, remains}
-use Rattle.moves.proofs.move_on.Statement.{statement}
-use Rattle.moves.proofs.move_on.Tie as tie
+use Rattle.dispatch.proofs.move_on.Statement.{statement}
+use Rattle.dispatch.proofs.move_on.Tie as tie
 
 -- The arms of keys, the last one first.
 abbrev arms : List (List ℕ)
