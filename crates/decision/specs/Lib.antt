@@ -1,2 +1,2 @@
 pub mod Also
-pub mod Updated
+pub mod Lent

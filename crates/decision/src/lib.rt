@@ -3,10 +3,12 @@ ghost use mathlib.Core.Path.{_≡_};
 ghost use mathlib.Core.Bool.{cond};
 ghost use lib.Dec.{eqb};
 ghost use Rattle.decision.specs.Also.{decidedAlso};
-ghost use Rattle.decision.specs.Updated.{Updated};
+ghost use Rattle.decision.specs.Lent.{lent};
 ghost use Rattle.flat.specs.Flat.{recordIn, slotsOf};
+ghost use Rattle.flat.specs.Written.{Written};
 ghost use Rattle.protocol.specs.Actions.{noActions};
 ghost use Rattle.protocol.specs.declared.Answer.the-variants.{Ignored, Refused};
+use dispatch::move_on;
 use effects::NO_ACTIONS;
 use effects::pick;
 use event::Input;
@@ -15,7 +17,6 @@ use flat::slots_of;
 use guards::holds;
 use guards::lowest_fault;
 use lifecycle::lock;
-use moves::move_on;
 use protocol::Answer;
 use protocol::refusals;
 use record::Connection;
@@ -35,7 +36,7 @@ pub fn decide(
     code: u32,
     input: Input,
 ) -> Answer
-    ensures { λ r. ⌜ Updated (decidedAlso also connection code input) (recordIn (now (numbers .entry))) r (now (numbers .exit)) (now (slots .exit)) ⌝ }
+    ensures { λ r. ⌜ Written (lent (recordIn (now (numbers .entry))) (decidedAlso also connection code input)) r (now (numbers .exit)) (now (slots .exit)) ⌝ }
 {
     let fault = lowest_fault(connection, code, input);
     if fault != refusals::NONE {

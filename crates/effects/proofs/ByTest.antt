@@ -1,4 +1,4 @@
--- What goes by a test: which of two events it is, and an effect on ACK.
+-- What goes by a test: which of two codes an event has, and an effect.
 -- Assumes nothing.
 use mathlib.Core.Path.{_≡_, refl}
 use mathlib.Core.Logic.{_⊎_, inl, inr}
@@ -6,6 +6,7 @@ use mathlib.Core.Bool.{Bool, true, false, cond}
 use Prim.Native.Nat.{ℕ}
 use Rattle.effects.specs.ByEvent.{Effect, tagBy, orderBy}
 
+-- A test holds or fails.
 pub true-or-false : (b : Bool) → (b ≡ true) ⊎ (b ≡ false)
 true-or-false true = inl refl
 true-or-false false = inr refl

@@ -16,7 +16,7 @@ use table::codes;
 use table::states;
 
 // The order that ends a driver or a timer that runs, unless it is the one that reports.
-fn ended(order: u32, reported: bool, tag: u32) -> u32
+fn ending_order(order: u32, reported: bool, tag: u32) -> u32
     ensures { λ r. ⌜ r ≡ cond (not reported && not (eqb tag 0)) order 0 ⌝ }
 {
     if !reported & (tag != 0) {
@@ -35,19 +35,19 @@ pub fn lock(connection: Connection, code: u32, input: Input, number: u32) -> Out
     let proved = (code == codes::RA_PROVER_OK) | (code == codes::RA_PROVER_FAILED);
     let verified = (code == codes::RA_VERIFIER_OK) | (code == codes::RA_VERIFIER_FAILED);
     let timeout = code == codes::HANDSHAKE_TIMEOUT;
-    let h = timeout & (input.timer == timers::H);
-    let hp = timeout & (input.timer == timers::HP);
-    let hv = timeout & (input.timer == timers::HV);
+    let h_expired = timeout & (input.timer == timers::H);
+    let hp_expired = timeout & (input.timer == timers::HP);
+    let hv_expired = timeout & (input.timer == timers::HV);
     let mut actions = NO_ACTIONS;
     actions.message = pick(silent, orders::NONE, orders::CLOSE);
-    actions.prover = ended(orders::STOP, proved, connection.prover);
-    actions.verifier = ended(orders::STOP, verified, connection.verifier);
-    actions.h = ended(orders::CANCEL, h, connection.h);
-    actions.hp = ended(orders::CANCEL, hp, connection.prover);
-    actions.hv = ended(orders::CANCEL, hv, connection.verifier);
-    actions.dat = ended(orders::CANCEL, code == codes::DAT_TIMEOUT, connection.dat);
-    actions.ra = ended(orders::CANCEL, code == codes::RA_TIMEOUT, connection.ra);
-    actions.ack = ended(orders::CANCEL, code == codes::ACK_TIMEOUT, connection.ack);
+    actions.prover = ending_order(orders::STOP, proved, connection.prover);
+    actions.verifier = ending_order(orders::STOP, verified, connection.verifier);
+    actions.h = ending_order(orders::CANCEL, h_expired, connection.h);
+    actions.hp = ending_order(orders::CANCEL, hp_expired, connection.prover);
+    actions.hv = ending_order(orders::CANCEL, hv_expired, connection.verifier);
+    actions.dat = ending_order(orders::CANCEL, code == codes::DAT_TIMEOUT, connection.dat);
+    actions.ra = ending_order(orders::CANCEL, code == codes::RA_TIMEOUT, connection.ra);
+    actions.ack = ending_order(orders::CANCEL, code == codes::ACK_TIMEOUT, connection.ack);
     Outcome {
         answer: Answer::Handled,
         connection: cleared(states::CLOSED_LOCKED, number),

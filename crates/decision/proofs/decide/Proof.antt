@@ -21,7 +21,7 @@ use Rattle.effects.proofs.Effects.{is-moving, moving-is, by-event, by-locking}
 use Rattle.flat.proofs.Written.{as-written}
 use Rattle.decision.specs.Also.{decidedAlso}
 use Rattle.decision.proofs.Also.{refused-also, late-also, ignored-late, refused-late}
-use Rattle.decision.proofs.Updated.{unmoved-updated, handled-updated}
+use Rattle.decision.proofs.Lent.{unmoved-written, handled-written}
 use Rattle.decision.proofs.decide.Statement.{statement}
 use Rattle.decision.proofs.decide.Tie as tie
 
@@ -53,7 +53,7 @@ returns c =
     let f = c .before .before .before in
     let low = f .lowest-fault in
     let some = ne-eqb (low .result) 0 (c .before .before .if1 .taken) in
-    unmoved-updated _ _ _ _ (outcome f) (low .result) (connection f)
+    unmoved-written _ _ _ _ (outcome f) (low .result) (connection f)
     (refused-also (also f) (connection f) (code f) (input f) (low .result) some (judged.refused limits (connection f) (code f) (input f) (low .result) _ _ (low .ensures) refl refl some))
     (c .unmoved .ensures .0)
     refl
@@ -65,7 +65,7 @@ returns-2 c =
     let n = l .before in
     let f = n .before .before .before in
     let low = f .lowest-fault in
-    unmoved-updated _ _ _ _ (outcome f) (l .pick .result) (connection f)
+    unmoved-written _ _ _ _ (outcome f) (l .pick .result) (connection f)
     (ignored-late (connection f) (outcome f) (l .pick .result)
     (late-also (also f) (connection f) (code f) (input f) (l .pick .result) (input f .«margin_too_large») (l .pick .ensures) (unchanged Ignored (connection f)) refl
     (judged.ignored limits (connection f) (code f) (input f) (low .result) (n .next-state .result) _ (low .ensures) (next-is n) refl (n .before .before .if1 .left) (c .before .before .if2 .taken))))
@@ -78,7 +78,7 @@ returns-3 c =
     let n = c .before .before .before .before .before in
     let f = n .before .before .before in
     let low = f .lowest-fault in
-    unmoved-updated _ _ _ _ (outcome f) 8 (connection f)
+    unmoved-written _ _ _ _ (outcome f) 8 (connection f)
     (refused-also (also f) (connection f) (code f) (input f) 8 refl
     (judged.refused-full limits (connection f) (code f) (input f) (low .result) (n .next-state .result) true (low .ensures) (next-is n) (eq-eqb (connection f .handled) 4294967295 (c .before .before .if3 .taken)) (n .before .before .if1 .left) (ne-eqb (n .next-state .result) 11 (c .before .before .before .if2 .left)) refl))
     (c .unmoved3 .ensures .0)
@@ -114,7 +114,7 @@ returns-4 c =
     let e = c .before .before .before in
     let l = e .before .before in
     let f = l .before .before .before .before in
-    unmoved-updated _ _ _ _ (outcome f) (l .pick .result) (connection f)
+    unmoved-written _ _ _ _ (outcome f) (l .pick .result) (connection f)
     (refused-late (connection f) (outcome f) (l .pick .result) _ (ne-eqb (l .pick .result) 0 (c .before .before .if4 .taken)) (goes e))
     (c .unmoved4 .ensures .0)
     refl
@@ -130,7 +130,7 @@ returns-5 c =
     let e = c .before .before .before .before .before in
     let n = e .before .before .before .before in
     let f = n .before .before .before in
-    handled-updated _ _ _ _ (outcome f) (n .next-state .result) (connection f) (code f) (input f) (goes-on e)
+    handled-written _ _ _ _ (outcome f) (n .next-state .result) (connection f) (code f) (input f) (goes-on e)
     (as-written _ _ _ _ _
     (c .before .lock .ensures ∙ by-locking (connection f) (code f) (input f) ∙
     ap (λ (t : ℕ). handledTo t (connection f) (code f) (input f)) (sym (c .before .before .before .before .if5 .taken)))
@@ -143,7 +143,7 @@ returns-6 c =
     let f = n .before .before .before in
     let heard = ne-eqb (n .next-state .result) 11 (e .before .before .if2 .left) in
     let stays = ne-eqb (n .next-state .result) 9 (c .before .before .before .if5 .left) in
-    handled-updated _ _ _ _ (outcome f) (n .next-state .result) (connection f) (code f) (input f) (goes-on e)
+    handled-written _ _ _ _ (outcome f) (n .next-state .result) (connection f) (code f) (input f) (goes-on e)
     (as-written _ _ _ _ _
     (ap (λ (k : ℕ). byEvent (connection f .handled + 1) (connection f) k (input f) (n .next-state .result)) (moving-is (code f) (is-moving limits (connection f) (code f) (input f) (n .next-state .result) (well n) (known n) (sym (next-is n)) heard stays)) ∙
     by-event limits (connection f) (code f) (input f) (n .next-state .result) (well n) (known n) (sym (next-is n)) heard stays)

@@ -17,4 +17,4 @@ lock-spec =
     (λ c κs. search needs)
     (λ c κs. search needs)
     (λ c κs. search needs)
-    (λ c. rw (c .cleared .ensures, c .before .ended8 .ensures, c .before .before .ended7 .ensures, c .before .before .before .ended6 .ensures, c .before .before .before .before .ended5 .ensures, c .before .before .before .before .before .ended4 .ensures, c .before .before .before .before .before .before .ended3 .ensures, c .before .before .before .before .before .before .before .ended2 .ensures, c .before .before .before .before .before .before .before .before .ended .ensures, c .before .before .before .before .before .before .before .before .before .pick .ensures)))
+    (λ c. rw (c .cleared .ensures, c .before .ending-order8 .ensures, c .before .before .ending-order7 .ensures, c .before .before .before .ending-order6 .ensures, c .before .before .before .before .ending-order5 .ensures, c .before .before .before .before .before .ending-order4 .ensures, c .before .before .before .before .before .before .ending-order3 .ensures, c .before .before .before .before .before .before .before .ending-order2 .ensures, c .before .before .before .before .before .before .before .before .ending-order .ensures, c .before .before .before .before .before .before .before .before .before .pick .ensures)))

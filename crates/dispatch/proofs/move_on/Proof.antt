@@ -1,24 +1,24 @@
--- `moves::move_on` meets its contract.
-use mathlib.Core.List.{List, [], _∷_}
-use Prim.Native.Nat.{ℕ}
-use borrow.Author.Needs.{needs}
+-- `dispatch::move_on` meets its contract.
 use mathlib.Core.Path.{_≡_, sym, subst}
 use mathlib.Core.Logic.{inl, inr}
-use lib.Dec.{T}
 use mathlib.Core.Bool.{Bool}
+use mathlib.Core.List.{List, [], _∷_}
+use Prim.Native.Nat.{ℕ}
+use lib.Dec.{T}
+use borrow.Author.Needs.{needs}
 use Rattle.effects.specs.ByEvent.{moving, movingCode}
 use Rattle.effects.proofs.ByTest.{true-or-false}
+use Rattle.flat.proofs.Written.{as-written}
 use Rattle.table.specs.Sets.{isIn}
 use Rattle.table.proofs.Arms.{Rest, one-of, remains}
-use Rattle.flat.proofs.Written.{as-written}
-use Rattle.moves.proofs.move_on.Statement.{statement}
-use Rattle.moves.proofs.move_on.Tie as tie
+use Rattle.dispatch.proofs.move_on.Statement.{statement}
+use Rattle.dispatch.proofs.move_on.Tie as tie
 
 -- The arms of keys, the last one first.
 abbrev arms : List (List ℕ)
 arms = (22 ∷ []) ∷ (21 ∷ []) ∷ (19 ∷ []) ∷ (18 ∷ []) ∷ (17 ∷ []) ∷ (16 ∷ []) ∷ (15 ∷ []) ∷ (14 ∷ []) ∷ (13 ∷ []) ∷ (11 ∷ []) ∷ (9 ∷ []) ∷ (7 ∷ []) ∷ (6 ∷ []) ∷ (4 ∷ []) ∷ (3 ∷ []) ∷ (2 ∷ []) ∷ (0 ∷ []) ∷ []
 
--- Of the events that move on 23 alone is in none of them.
+-- Of the codes that move on 23 alone is in none of them, and a code that does not move on counts as 23.
 counts-as-23 : (code : ℕ) → Rest arms code → movingCode code ≡ 23
 counts-as-23 code r = elim (true-or-false (isIn moving code)) [ inl e ↦ rw e (remains arms moving code r (one-of moving code (subst (λ (b : Bool). T b) (sym e) tt))) | inr e ↦ rw e ]
 

@@ -1,4 +1,4 @@
-// A handled event that doesn't lock, by its code: each arm writes what its event does.
+// Gives a handled event that doesn't lock to its function, by its code.
 ghost use Rattle.effects.specs.ByEvent.{byEvent, movingCode};
 ghost use Rattle.flat.specs.Written.{Written};
 use attestation::pass_on;
@@ -37,7 +37,7 @@ use transfer::receive_data;
 use transfer::repeat_data;
 use transfer::send_data;
 
-// Writes the record and the actions after a handled event that doesn't lock.
+// Writes the record and the actions after the event, each event in its own arm. A code that never moves on counts as ACK_TIMEOUT.
 pub fn move_on(
     numbers: &mut [u32; 12],
     slots: &mut [u32; 16],
@@ -83,7 +83,7 @@ pub fn move_on(
             slots,
             verify_again(before, false, input, to, number),
         ),
-        // ACK_TIMEOUT: no other event moves on.
+        // ACK_TIMEOUT, or a code that never moves on.
         _ => put(numbers, slots, repeat_data(before, input, to, number)),
     }
 }
