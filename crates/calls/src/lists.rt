@@ -4,7 +4,7 @@ use scan::numbers;
 // The most entries of a list that are understood.
 pub const ENTRIES: usize = 32;
 
-// Whether four groups are lists; the first has an index.
+// Whether four groups are lists. The index of the first has 32 bits, so that those of the others fit.
 pub fn are_understood(row: &[u8], first: u32) -> bool {
     let group = first as usize;
     let mut entries = [0u32; ENTRIES];
