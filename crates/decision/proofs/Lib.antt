@@ -1,2 +1,2 @@
-pub mod Also
+mod Also
 mod Lent
