@@ -64,6 +64,14 @@ helloStep (hello-field.Fault refusal) f = stop refusal
 abbrev pub Content : Form → (bytes : List ℕ) (place : ℕ) → (Fields → Step) → Type 0
 Content form bytes place step = (f : Fields) (provers verifiers : List ℕ) → ContentStep form bytes place (withMark form f) provers verifiers (step f) provers verifiers
 
+-- The same of the prover suites, which are read into a list.
+abbrev pub ProversContent : (bytes : List ℕ) (place : ℕ) → hello.Field → (list : List ℕ) → Type 0
+ProversContent bytes place r list = (f : Fields) (provers verifiers : List ℕ) → ContentStep Provers bytes place (withMark Provers f) provers verifiers (helloStep r f) list verifiers
+
+-- The same of the verifier suites.
+abbrev pub VerifiersContent : (bytes : List ℕ) (place : ℕ) → hello.Field → (list : List ℕ) → Type 0
+VerifiersContent bytes place r list = (f : Fields) (provers verifiers : List ℕ) → ContentStep Verifiers bytes place (withMark Verifiers f) provers verifiers (helloStep r f) provers list
+
 -- The marks of a message without lists.
 abbrev pub plainMarks : (bytes bit : Bool) → Marks
 plainMarks bytes bit = marks bytes false false bit
