@@ -6,10 +6,10 @@ use mathlib.Core.List.{List, []}
 use lib.ListN.{length}
 use Rattle.wire.specs.Varint.{value, numberAt}
 use Rattle.wire.specs.Layout.{block, blockAt, afterBlock, afterNumber, afterKey, fieldsFrom}
-use Rattle.wire.specs.Fault.{Reading, readAs, refused, judged}
+use Rattle.fault.specs.Fault.{Reading, readAs, refused, judged}
 use Rattle.wire.specs.Lists.{entries}
 use Rattle.wire.specs.Parts.{Holds}
-use Rattle.wire.specs.Refusals.{refusalNumber}
+use Rattle.fault.specs.Refusals.{refusalNumber}
 use Rattle.fields.specs.Schema.{Form, Unknown, Bytes, Provers, Verifiers, Bit, formIn}
 use Rattle.fields.specs.Faults.{noNumbers, adding, fieldOf, ofContent, ofField, ofFields, ofInner}
 use Rattle.fields.specs.Message.{Message, made, empty, filled, withField, withFields, messageIn}
