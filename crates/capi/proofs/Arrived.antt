@@ -10,7 +10,7 @@ use Rattle.flat.specs.Flat.{recordIn}
 use Rattle.inbound.specs.Arrival.{alsoOf, codeOf}
 use Rattle.inbound.specs.Received.{Given, callFrom, given, received, receivedAs}
 use Rattle.messages.proofs.Lengths.{all-there}
-use Rattle.wire.specs.Fault.{Reading, readAs, refused}
+use Rattle.fault.specs.Fault.{Reading, readAs, refused}
 use Rattle.fields.specs.Message.{Message, made}
 use Rattle.messages.specs.Outer.{readingOf}
 use Rattle.messages.specs.Numbers.{partOf}

@@ -5,7 +5,7 @@ use Prim.Native.Nat.{ℕ, _+_, _≤_}
 use native.Mathlib.Omega.{arith}
 use lib.ListN.{length}
 use Rattle.messages.proofs.Laws.{part-lies}
-use Rattle.wire.specs.Fault.{Reading, readAs, refused}
+use Rattle.fault.specs.Fault.{Reading, readAs, refused}
 use Rattle.messages.specs.Flat.{flatIn}
 use Rattle.fields.specs.Message.{Message}
 use Rattle.messages.specs.Outer.{readingOf}

@@ -6,14 +6,14 @@ use Prim.Native.Nat.{ℕ, _+_}
 use lib.Dec.{ltb}
 use Rattle.wire.specs.Varint.{Number, value, fault, numberAt, asBit, bitAt}
 use Rattle.wire.specs.Layout.{block, blockAt, afterBlock}
-use Rattle.wire.specs.Fault.{at, leftmost, readAs, refused, judged}
+use Rattle.fault.specs.Fault.{at, leftmost, readAs, refused, judged}
 use Rattle.wire.specs.Lists.{ofList, suitesIn, entries}
-use Rattle.wire.specs.Refusals.{refusalNumber}
+use Rattle.fault.specs.Refusals.{refusalNumber}
 use Rattle.wire.specs.Parts.{Holds, Listed, Stored, listed, packedAt, packedOf}
-use Rattle.wire.specs.declared.Refusal.{Refusal}
+use Rattle.fault.specs.declared.Refusal.{Refusal}
 use Rattle.wire.specs.declared.list.Packed.{Packed}
 use Rattle.wire.specs.declared.list.Packed.the-variants as packed
-use Rattle.wire.proofs.Order.{same-refused, same-read}
+use Rattle.fault.proofs.Order.{same-refused, same-read}
 use Rattle.fields.specs.Schema.{Form, Bytes, Provers, Verifiers, Bit}
 use Rattle.fields.specs.Faults.{ofContent}
 use Rattle.fields.specs.Message.{made}

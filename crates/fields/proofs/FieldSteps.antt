@@ -10,9 +10,9 @@ use lib.ListN.{length, take}
 use lib.Seq.{length-take-le}
 use Rattle.wire.specs.Varint.{Number, value, fault, numberAt, asBit}
 use Rattle.wire.specs.Layout.{Block, block, faulty, blockAt, afterBlock, afterNumber, afterKey, places, fieldNumber, wireType, entriesFrom, fieldsFrom}
-use Rattle.wire.specs.Fault.{Fault, at, faultIf, orElse, leftmost, refused, judged}
+use Rattle.fault.specs.Fault.{Fault, at, faultIf, orElse, leftmost, refused, judged}
 use Rattle.wire.specs.Lists.{ofNumber, ofList, ofEntries}
-use Rattle.wire.proofs.Order.{Between, absurd-bool, widen, joined, not-before}
+use Rattle.fault.proofs.Order.{Between, absurd-bool, widen, joined, not-before}
 use Rattle.wire.proofs.Places.{Stands, stands, BlockStands, block-stands}
 use Rattle.wire.proofs.Lists.{entries-all}
 use Rattle.fields.specs.Schema.{Form, Unknown, Bytes, Provers, Verifiers, Bit, isUnknown, wrongType}

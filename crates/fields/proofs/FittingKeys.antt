@@ -7,7 +7,7 @@ use native.Mathlib.Omega.{arith}
 use lib.Dec.{eqb}
 use borrow.Author.Tests.{eq-eqb, ne-eqb, eqb-true}
 use Rattle.wire.specs.Layout.{fieldNumber, wireType}
-use Rattle.wire.proofs.Order.{absurd-bool}
+use Rattle.fault.proofs.Order.{absurd-bool}
 use Rattle.fields.specs.Schema.{Form, Unknown, Bytes, Provers, Verifiers, Bit, formIn, isUnknown, wrongType}
 use Rattle.fields.specs.Fields.{Marks, isRead, isUnexpected}
 use Rattle.fields.specs.Steps.{helloMarks, plainMarks}

@@ -8,7 +8,7 @@ use native.Mathlib.Omega.{arith}
 use lib.Dec.{eqb, ltb}
 use borrow.Author.Tests.{eq-eqb, ne-eqb, eqb-true, ltb-true, ltb-false}
 use lib.ListN.{length, getD, List·getD-eq-default}
-use Rattle.wire.proofs.Order.{absurd-bool}
+use Rattle.fault.proofs.Order.{absurd-bool}
 use Rattle.fields.specs.Schema.{Form, Unknown, Bytes, Provers, Verifiers, Bit, schema, formIn, isUnknown}
 use Rattle.fields.specs.Fields.{contains, formCode, isForm}
 

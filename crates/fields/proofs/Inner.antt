@@ -9,12 +9,12 @@ use lib.Dec.{ltb}
 use lib.ListN.{length, take}
 use lib.Seq.{length-take-le}
 use Rattle.wire.specs.Layout.{block, faulty, blockAt, fieldsFrom}
-use Rattle.wire.specs.Fault.{Fault, Reading, at, faultIf, leftmost, readAs, refused, judged}
+use Rattle.fault.specs.Fault.{Fault, Reading, at, faultIf, leftmost, readAs, refused, judged}
 use Rattle.wire.specs.Lists.{entries}
 use Rattle.wire.specs.Parts.{Holds}
-use Rattle.wire.specs.Refusals.{refusalNumber}
-use Rattle.wire.specs.declared.Refusal.{Refusal}
-use Rattle.wire.proofs.Order.{Between, append-refused, append-read}
+use Rattle.fault.specs.Refusals.{refusalNumber}
+use Rattle.fault.specs.declared.Refusal.{Refusal}
+use Rattle.fault.proofs.Order.{Between, append-refused, append-read}
 use Rattle.fields.specs.Schema.{formIn}
 use Rattle.fields.specs.Faults.{noNumbers, ofFields}
 use Rattle.fields.specs.Message.{Message, made, empty, withFields, readingAt}

@@ -6,11 +6,11 @@ use Prim.Native.Nat.{ℕ}
 use lib.Dec.{eqb}
 use Rattle.wire.specs.Varint.{value, fault, numberAt}
 use Rattle.wire.specs.Layout.{fieldNumber, wireType}
-use Rattle.wire.specs.Fault.{leftmost, judged}
-use Rattle.wire.specs.Refusals.{refusalNumber}
-use Rattle.wire.specs.declared.Refusal.{Refusal}
-use Rattle.wire.specs.declared.Refusal.the-variants.{UnexpectedField, WrongWireType}
-use Rattle.wire.proofs.Order.{absurd-bool}
+use Rattle.fault.specs.Fault.{leftmost, judged}
+use Rattle.fault.specs.Refusals.{refusalNumber}
+use Rattle.fault.specs.declared.Refusal.{Refusal}
+use Rattle.fault.specs.declared.Refusal.the-variants.{UnexpectedField, WrongWireType}
+use Rattle.fault.proofs.Order.{absurd-bool}
 use Rattle.fields.specs.Schema.{Form, Unknown, Bytes, Provers, Verifiers, Bit, formIn, isUnknown, wrongType}
 use Rattle.fields.specs.Faults.{FieldNumbers, adding, ofContent}
 use Rattle.fields.specs.Message.{filled}

@@ -8,11 +8,11 @@ use native.Mathlib.Omega.{arith}
 use lib.ListN.{length}
 use Rattle.wire.specs.Varint.{numberAt}
 use Rattle.wire.specs.Layout.{afterKey, fieldsFrom}
-use Rattle.wire.specs.Fault.{Fault, leftmost, readAs, refused, judged}
+use Rattle.fault.specs.Fault.{Fault, leftmost, readAs, refused, judged}
 use Rattle.wire.specs.Lists.{entries, padded}
-use Rattle.wire.specs.Refusals.{refusalNumber}
-use Rattle.wire.specs.declared.Refusal.{Refusal}
-use Rattle.wire.proofs.Order.{Between, append-refused, append-read}
+use Rattle.fault.specs.Refusals.{refusalNumber}
+use Rattle.fault.specs.declared.Refusal.{Refusal}
+use Rattle.fault.proofs.Order.{Between, append-refused, append-read}
 use Rattle.wire.proofs.Places.{at-end, one-more}
 use Rattle.fields.specs.Schema.{Form, Unknown, Bytes, Provers, Verifiers, Bit, formIn}
 use Rattle.fields.specs.Faults.{FieldNumbers, noNumbers, adding, fieldOf, ofField, ofFields}

@@ -4,9 +4,9 @@ use Prim.Native.Nat.{ℕ, _≤_}
 use mathlib.Core.Bool.{cond}
 use mathlib.Core.List.{List, []}
 use lib.Dec.{eqb}
-use Rattle.wire.specs.Fault.{Reading, readAs, refused}
+use Rattle.fault.specs.Fault.{Reading, readAs, refused}
 use Rattle.wire.specs.Lists.{entries, padded}
-use Rattle.wire.specs.Refusals.{refusalNumber}
+use Rattle.fault.specs.Refusals.{refusalNumber}
 use Rattle.fields.specs.Message.{Message, made}
 use Rattle.fields.specs.declared.Contents.{Contents}
 use Rattle.fields.specs.declared.Contents.the-variants.{Hello, Plain, Fault}

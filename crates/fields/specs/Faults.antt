@@ -9,7 +9,7 @@ use lib.ListN.{length, take}
 use Rattle.wire.specs.Varint.{Number, value, fault, numberAt, bitAt}
 use Rattle.wire.specs.Layout.{Block, block, faulty, blockAt, fieldNumber, wireType, fieldsFrom}
 use Rattle.wire.specs.Lists.{ofNumber, ofList}
-use Rattle.wire.specs.Fault.{Fault, at, faultIf, orElse}
+use Rattle.fault.specs.Fault.{Fault, at, faultIf, orElse}
 use Rattle.fields.specs.Schema.{Form, Unknown, Bytes, Provers, Verifiers, Bit, formIn, isUnknown, wrongType}
 
 -- A set of field numbers, by the test that its members pass.

@@ -3,11 +3,11 @@ use Prim.Native.Nat.{ℕ}
 use mathlib.Core.Bool.{Bool, false, _||_}
 use mathlib.Core.List.{List, [], _∷_}
 use lib.Dec.{eqb}
-use Rattle.wire.specs.Fault.{Reading, readAs, refused}
+use Rattle.fault.specs.Fault.{Reading, readAs, refused}
 use Rattle.wire.specs.Lists.{entries}
 use Rattle.wire.specs.Parts.{Holds}
-use Rattle.wire.specs.Refusals.{refusalNumber}
-use Rattle.wire.specs.declared.Refusal.{Refusal}
+use Rattle.fault.specs.Refusals.{refusalNumber}
+use Rattle.fault.specs.declared.Refusal.{Refusal}
 use Rattle.fields.specs.Schema.{Form, Unknown, Bytes, Provers, Verifiers, Bit, formIn, isUnknown}
 use Rattle.fields.specs.Faults.{FieldNumbers}
 use Rattle.fields.specs.Message.{Message, made}

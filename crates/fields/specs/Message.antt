@@ -5,7 +5,7 @@ use lib.ListN.{take}
 use Rattle.wire.specs.Varint.{Number, value, fault, numberAt, bitAt}
 use Rattle.wire.specs.Layout.{Block, block, faulty, blockAt, fieldNumber, fieldsFrom}
 use Rattle.wire.specs.Lists.{numberIn, suitesIn}
-use Rattle.wire.specs.Fault.{Reading, judged}
+use Rattle.fault.specs.Fault.{Reading, judged}
 use Rattle.fields.specs.Schema.{Form, Unknown, Bytes, Provers, Verifiers, Bit, formIn}
 use Rattle.fields.specs.Faults.{ofInner}
 

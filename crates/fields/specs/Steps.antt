@@ -6,10 +6,10 @@ use mathlib.Core.List.{List, []}
 use lib.ListN.{length}
 use Rattle.wire.specs.Varint.{value, numberAt}
 use Rattle.wire.specs.Layout.{block, blockAt, afterBlock, afterNumber, afterKey, fieldsFrom}
-use Rattle.wire.specs.Fault.{Reading, readAs, refused, judged}
+use Rattle.fault.specs.Fault.{Reading, readAs, refused, judged}
 use Rattle.wire.specs.Lists.{entries}
 use Rattle.wire.specs.Parts.{Holds}
-use Rattle.wire.specs.Refusals.{refusalNumber}
+use Rattle.fault.specs.Refusals.{refusalNumber}
 use Rattle.fields.specs.Schema.{Form, Unknown, Bytes, Provers, Verifiers, Bit, formIn}
 use Rattle.fields.specs.Faults.{noNumbers, adding, fieldOf, ofContent, ofField, ofFields, ofInner}
 use Rattle.fields.specs.Message.{Message, made, empty, filled, withField, withFields, messageIn}
@@ -63,6 +63,14 @@ helloStep (hello-field.Fault refusal) f = stop refusal
 -- What a field of a message without lists holds, whatever was read before it.
 abbrev pub Content : Form → (bytes : List ℕ) (place : ℕ) → (Fields → Step) → Type 0
 Content form bytes place step = (f : Fields) (provers verifiers : List ℕ) → ContentStep form bytes place (withMark form f) provers verifiers (step f) provers verifiers
+
+-- The same of the prover suites, which are read into a list.
+abbrev pub ProversContent : (bytes : List ℕ) (place : ℕ) → hello.Field → (list : List ℕ) → Type 0
+ProversContent bytes place r list = (f : Fields) (provers verifiers : List ℕ) → ContentStep Provers bytes place (withMark Provers f) provers verifiers (helloStep r f) list verifiers
+
+-- The same of the verifier suites.
+abbrev pub VerifiersContent : (bytes : List ℕ) (place : ℕ) → hello.Field → (list : List ℕ) → Type 0
+VerifiersContent bytes place r list = (f : Fields) (provers verifiers : List ℕ) → ContentStep Verifiers bytes place (withMark Verifiers f) provers verifiers (helloStep r f) provers list
 
 -- The marks of a message without lists.
 abbrev pub plainMarks : (bytes bit : Bool) → Marks

@@ -4,15 +4,16 @@ ghost use mathlib.Core.List.{[]};
 ghost use Prim.Native.Nat.{_+_, _≤_};
 ghost use lib.ListN.{length};
 ghost use Rattle.wire.specs.Lists.{padded};
-ghost use Rattle.fields.specs.Steps.{HelloCounts, HelloStep, Reads, fieldsOf, helloIn, innerOf};
+ghost use Rattle.fields.specs.Steps.{Content, HelloCounts, HelloStep, ProversContent, Reads, VerifiersContent, fieldsOf, helloIn, helloStep, innerOf};
+ghost use Rattle.fields.specs.Schema.{Bytes};
 use crate::Contents;
 use crate::Held;
 use crate::keys;
 use crate::keys::misfit;
 use crate::schema;
+use fault::Refusal;
 use wire::Block;
 use wire::Packed;
-use wire::Refusal;
 use wire::Varint;
 use wire::block_at;
 use wire::number;
@@ -51,6 +52,36 @@ pub enum Hello {
     Fault(Refusal),
 }
 
+fn token_at(bytes: &[u8], place: usize) -> Field
+    ensures { λ r. ⌜ Content Bytes (now (bytes .entry)) place (helloStep r) ⌝ }
+{
+    let part = block_at(bytes, place);
+    match part {
+        Block::Fault(refusal) => Field::Fault(refusal),
+        Block::Bytes(start, size) => Field::Token(start, size),
+    }
+}
+
+fn provers_at(bytes: &[u8], place: usize, provers: &mut [u32; 16]) -> Field
+    ensures { λ r. ⌜ ProversContent (now (bytes .entry)) place r (now (provers .exit)) ⌝ }
+{
+    let list = packed_at(bytes, place, provers);
+    match list {
+        Packed::Fault(refusal) => Field::Fault(refusal),
+        Packed::Suites(count, after) => Field::Provers(count, after),
+    }
+}
+
+fn verifiers_at(bytes: &[u8], place: usize, verifiers: &mut [u32; 16]) -> Field
+    ensures { λ r. ⌜ VerifiersContent (now (bytes .entry)) place r (now (verifiers .exit)) ⌝ }
+{
+    let list = packed_at(bytes, place, verifiers);
+    match list {
+        Packed::Fault(refusal) => Field::Fault(refusal),
+        Packed::Suites(count, after) => Field::Verifiers(count, after),
+    }
+}
+
 // One field: its key, and then what the key announces.
 fn next_field(
     bytes: &[u8],
@@ -66,25 +97,13 @@ fn next_field(
         Varint::Fault(refusal) => Field::Fault(refusal),
         Varint::Number(key, next) => {
             if (key == keys::BYTES) & !read.token {
-                let part = block_at(bytes, next);
-                return match part {
-                    Block::Fault(refusal) => Field::Fault(refusal),
-                    Block::Bytes(start, size) => Field::Token(start, size),
-                };
+                return token_at(bytes, next);
             }
             if (key == keys::PROVERS) & !read.provers {
-                let list = packed_at(bytes, next, provers);
-                return match list {
-                    Packed::Fault(refusal) => Field::Fault(refusal),
-                    Packed::Suites(count, after) => Field::Provers(count, after),
-                };
+                return provers_at(bytes, next, provers);
             }
             if (key == keys::VERIFIERS) & !read.verifiers {
-                let list = packed_at(bytes, next, verifiers);
-                return match list {
-                    Packed::Fault(refusal) => Field::Fault(refusal),
-                    Packed::Suites(count, after) => Field::Verifiers(count, after),
-                };
+                return verifiers_at(bytes, next, verifiers);
             }
             let field = key / schema::WIRE_TYPES;
             let expected = ((field == schema::BYTES) & !read.token)

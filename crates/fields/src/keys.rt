@@ -1,12 +1,12 @@
 // The keys that fit, and why another does not.
 ghost use mathlib.Core.Path.{_≡_};
 ghost use mathlib.Core.Bool.{cond};
-ghost use Rattle.wire.specs.declared.Refusal.the-variants as refusal;
+ghost use Rattle.fault.specs.declared.Refusal.the-variants as refusal;
 use crate::schema;
 use crate::schema::LENGTH_DELIMITED;
 use crate::schema::VARINT;
 use crate::schema::WIRE_TYPES;
-use wire::Refusal;
+use fault::Refusal;
 
 pub const BYTES: u32 = schema::BYTES * WIRE_TYPES + LENGTH_DELIMITED;
 

@@ -10,8 +10,8 @@ pub mod schema;
 
 use crate::hello::hello_in;
 use crate::plain::plain_in;
+use fault::Refusal;
 use wire::Block;
-use wire::Refusal;
 use wire::block_at;
 
 // Where bytes lie in those that were lent. An absent field lies at 0 and has none.

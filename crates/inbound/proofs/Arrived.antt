@@ -11,7 +11,7 @@ use Rattle.protocol.specs.Step.{resultWith, unchanged}
 use Rattle.protocol.specs.declared.Answer.the-variants.{Refused}
 use Rattle.record.specs.declared.Connection.{Connection}
 use Rattle.messages.proofs.Lengths.{all-there}
-use Rattle.wire.specs.Fault.{Reading, readAs, refused}
+use Rattle.fault.specs.Fault.{Reading, readAs, refused}
 use Rattle.messages.specs.Flat.{readingBy}
 use Rattle.fields.specs.Message.{made}
 use Rattle.messages.specs.Outer.{readingOf}

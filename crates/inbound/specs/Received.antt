@@ -6,7 +6,7 @@ use Rattle.event.specs.Call.{Call, callOf}
 use Rattle.protocol.specs.Step.{Result, resultWith, unchanged}
 use Rattle.protocol.specs.declared.Answer.the-variants.{Refused}
 use Rattle.record.specs.declared.Connection.{Connection}
-use Rattle.wire.specs.Fault.{Reading, readAs, refused}
+use Rattle.fault.specs.Fault.{Reading, readAs, refused}
 use Rattle.fields.specs.Message.{Message}
 use Rattle.messages.specs.Outer.{readingOf}
 use Rattle.messages.specs.Numbers.{partOf}

@@ -4,10 +4,10 @@ use mathlib.Core.List.{List, []}
 use Prim.Native.Nat.{ℕ, _≤_}
 use native.Mathlib.Omega.{arith}
 use borrow.Author.Tests.{ne-eqb}
-use Rattle.wire.specs.Fault.{Reading, readAs}
-use Rattle.wire.specs.Refusals.{refusalNumber}
-use Rattle.wire.specs.declared.Refusal.{Refusal}
-use Rattle.wire.specs.declared.Refusal.the-variants.{EndsTooSoon, UnexpectedField, WrongWireType, NumberTooLarge, TooManySuites}
+use Rattle.fault.specs.Fault.{Reading, readAs}
+use Rattle.fault.specs.Refusals.{refusalNumber}
+use Rattle.fault.specs.declared.Refusal.{Refusal}
+use Rattle.fault.specs.declared.Refusal.the-variants.{EndsTooSoon, UnexpectedField, WrongWireType, NumberTooLarge, TooManySuites}
 use Rattle.fields.specs.Message.{Message, made}
 use Rattle.fields.specs.Contents.{Fits, contentsIn, proversAfter, verifiersAfter}
 use Rattle.fields.specs.declared.Contents.{Contents}

@@ -7,7 +7,7 @@ use Prim.Native.Nat.{ℕ, _+_}
 use lib.ListN.{take, getD}
 use Rattle.wire.specs.Varint.{Number, value, fault, numberAt}
 use Rattle.wire.specs.Layout.{Block, block, faulty, blockAt, fieldNumber, fieldsFrom}
-use Rattle.wire.specs.Fault.{Fault, byFirst, judged, leftmost}
+use Rattle.fault.specs.Fault.{Fault, byFirst, judged, leftmost}
 use Rattle.fields.specs.Schema.{Form, Unknown, Bytes, Provers, Verifiers, Bit, schema, formIn}
 use Rattle.fields.specs.Message.{Message, made, empty, filled, withField, withFields, messageIn}
 use Rattle.fields.specs.Fields.{contains, formCode}

@@ -5,10 +5,10 @@ use Prim.Native.Nat.{ℕ, _+_, _≤_}
 use native.Mathlib.Omega.{arith}
 use lib.ListN.{length, take}
 use lib.Seq.{length-take-le}
-use Rattle.wire.specs.Fault.{leftmost}
+use Rattle.fault.specs.Fault.{leftmost}
 use Rattle.wire.specs.Layout.{Block, block, faulty, blockAt, fieldsFrom, fieldNumber}
 use Rattle.wire.specs.Varint.{Number, value, fault, numberAt}
-use Rattle.wire.proofs.First.{leftmost-first, none-first, read-none, refused-some}
+use Rattle.fault.proofs.First.{leftmost-first, none-first, read-none, refused-some}
 use Rattle.wire.proofs.Places.{BlockStands, block-stands}
 use Rattle.fields.specs.Schema.{Form, Unknown, Bytes, Provers, Verifiers, Bit, formIn}
 use Rattle.fields.specs.Message.{Message, empty, startIn, sizeIn, filled, withField, withFields, messageIn}

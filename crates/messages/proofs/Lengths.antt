@@ -6,7 +6,7 @@ use native.Mathlib.Omega.{arith}
 use lib.ListN.{length, take, length-append, length-take, length-replicate}
 use mathlib.Core.Bool.{Bool, true, false, cond}
 use lib.Dec.{eqb}
-use Rattle.wire.specs.Fault.{Reading, readAs, refused}
+use Rattle.fault.specs.Fault.{Reading, readAs, refused}
 use Rattle.wire.specs.Lists.{entries, padded}
 use Rattle.wire.proofs.Lists.{length-padded}
 use Rattle.fields.specs.Message as spec

@@ -9,8 +9,8 @@ use lib.Dec.{leb, ltb}
 use lib.ListN.{length}
 use Rattle.wire.specs.Varint.{value, fault, numberAt}
 use Rattle.wire.specs.Layout.{fieldNumber, wireType}
-use Rattle.wire.specs.Fault.{leftmost, refused}
-use Rattle.wire.proofs.Order.{absurd-bool}
+use Rattle.fault.specs.Fault.{leftmost, refused}
+use Rattle.fault.proofs.Order.{absurd-bool}
 use Rattle.fields.specs.Schema.{Unknown, Bytes, outerForm}
 use Rattle.fields.specs.Message.{readingAt}
 use Rattle.messages.specs.Outer.{ofOuter, faultsOf, readingOf}

@@ -5,7 +5,7 @@ use mathlib.Core.Bool.{cond}
 use mathlib.Core.List.{List}
 use lib.Dec.{eqb}
 use lib.ListN.{length}
-use Rattle.wire.specs.Fault.{Reading, readAs, refused}
+use Rattle.fault.specs.Fault.{Reading, readAs, refused}
 use Rattle.wire.specs.Lists.{entries}
 use Rattle.fields.specs.Message.{made}
 use Rattle.fields.specs.Message as spec

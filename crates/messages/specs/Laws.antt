@@ -3,7 +3,7 @@ use mathlib.Core.Path.{_≡_}
 use mathlib.Core.List.{List, []}
 use Prim.Native.Nat.{ℕ, _+_, _≤_}
 use lib.ListN.{length}
-use Rattle.wire.specs.Fault.{Fault, FirstIn, readAs, refused}
+use Rattle.fault.specs.Fault.{Fault, FirstIn, readAs, refused}
 use Rattle.fields.specs.Message.{Message}
 use Rattle.messages.specs.Outer.{faultsOf, readingOf}
 

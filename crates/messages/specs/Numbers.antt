@@ -5,9 +5,9 @@ use mathlib.Core.Bool.{cond}
 use mathlib.Core.List.{List, []}
 use lib.Dec.{ltb}
 use lib.ListN.{length, take, drop}
-use Rattle.wire.specs.Fault.{Reading, readAs, refused}
+use Rattle.fault.specs.Fault.{Reading, readAs, refused}
 use Rattle.wire.specs.Lists.{entries}
-use Rattle.wire.specs.Refusals.{refusalNumber}
+use Rattle.fault.specs.Refusals.{refusalNumber}
 use Rattle.fields.specs.Message.{made, empty}
 use Rattle.fields.specs.Message as spec
 use Rattle.fields.specs.declared.Span.{Span}

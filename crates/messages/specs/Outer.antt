@@ -3,7 +3,7 @@ use Prim.Native.Nat.{ℕ}
 use mathlib.Core.List.{List, [], _∷_}
 use Rattle.wire.specs.Varint.{Number, value, fault, numberAt}
 use Rattle.wire.specs.Layout.{blockAt, fieldNumber}
-use Rattle.wire.specs.Fault.{Fault, Reading, at, judged, orElse}
+use Rattle.fault.specs.Fault.{Fault, Reading, at, judged, orElse}
 use Rattle.fields.specs.Schema.{outerForm}
 use Rattle.fields.specs.Faults.{noNumbers, ofKey, ofInner}
 use Rattle.fields.specs.Message.{Message, empty, messageIn}

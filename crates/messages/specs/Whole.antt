@@ -4,8 +4,8 @@ use Prim.Native.Nat.{ℕ, _≤_}
 use mathlib.Core.Bool.{cond}
 use mathlib.Core.List.{List, []}
 use lib.ListN.{getD}
-use Rattle.wire.specs.Fault.{Reading, readAs, refused}
-use Rattle.wire.specs.Refusals.{refusalNumber}
+use Rattle.fault.specs.Fault.{Reading, readAs, refused}
+use Rattle.fault.specs.Refusals.{refusalNumber}
 use Rattle.fields.specs.Schema.{Bytes, Provers, Verifiers, Bit, schema}
 use Rattle.fields.specs.Message.{Message, made, readingAt}
 use Rattle.fields.specs.Contents.{contentsIn}

@@ -6,9 +6,9 @@ ghost use Rattle.messages.specs.Flat.{Known, flatIn, readingBy};
 ghost use Rattle.messages.specs.Outer.{readingOf};
 ghost use Rattle.messages.specs.Whole.{flatOf};
 use crate::outer::contents_of;
+use fault::refusal_number;
 use fields::Contents;
 use fields::schema;
-use wire::refusal_number;
 
 // A refusal's number, 0 for none, and then the message's number, its bit, how many suites, and where the token or payload
 // lies. What a message does not carry is 0; where the bytes are refused, all but the refusal is.

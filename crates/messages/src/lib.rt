@@ -11,10 +11,10 @@ mod outer;
 pub use crate::flat::FlatMessage;
 pub use crate::flat::read_flat;
 use crate::outer::contents_of;
+use fault::Refusal;
 use fields::Contents;
 pub use fields::Span;
 pub use fields::schema;
-use wire::Refusal;
 
 // A message, or why there is none. The suites of a hello stand in the lists that the caller lends.
 pub enum Message {

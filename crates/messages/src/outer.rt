@@ -3,10 +3,10 @@ ghost use mathlib.Core.Path.{_≡_};
 ghost use Rattle.fields.specs.Contents.{contentsIn, proversAfter, verifiersAfter};
 ghost use Rattle.messages.specs.Outer.{readingOf};
 ghost use Rattle.messages.specs.Whole.{Known, Opened};
+use fault::Refusal;
 use fields::Contents;
 use fields::read_at;
 use fields::schema;
-use wire::Refusal;
 use wire::Varint;
 use wire::number;
 

@@ -11,9 +11,9 @@ use Rattle.wire.specs.Varint.{Number, value, fault, numberAt}
 use Rattle.wire.specs.Parts.{listed, packedAt}
 use Rattle.wire.specs.Bytes.{listFrom}
 use Rattle.wire.specs.Layout.{block, faulty, blockAt, places, afterNumber, entriesFrom}
-use Rattle.wire.specs.Fault.{at, leftmost, readAs, refused, judged}
+use Rattle.fault.specs.Fault.{at, leftmost, readAs, refused, judged}
 use Rattle.wire.specs.Lists.{ofNumber, ofEntries, suitesFrom, entries, padded}
-use Rattle.wire.proofs.Order.{Between, widen, joined, not-before, append-refused}
+use Rattle.fault.proofs.Order.{Between, widen, joined, not-before, append-refused}
 use Rattle.wire.proofs.Places.{Stands, stands, at-end, one-more, block-within}
 
 module _ (list : List ℕ) where

@@ -6,7 +6,7 @@ use mathlib.Core.List.{List}
 use lib.ListN.{length, drop}
 use Rattle.wire.specs.Varint.{Said, says, cut, endless, said}
 use Rattle.wire.specs.Layout.{entriesFrom}
-use Rattle.wire.specs.Fault.{Reading, judged}
+use Rattle.fault.specs.Fault.{Reading, judged}
 use Rattle.wire.specs.Lists.{ofEntries, suitesFrom}
 use Rattle.wire.specs.Parts.{Listed, listed}
 use Rattle.wire.specs.declared.varint.Said as first

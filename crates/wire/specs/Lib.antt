@@ -1,7 +1,5 @@
 pub mod Varint
 pub mod Layout
-pub mod Fault
 pub mod Lists
-pub mod Refusals
 pub mod Parts
 pub mod Bytes

@@ -5,7 +5,7 @@ use mathlib.Core.List.{List, [], _∷_, _++_, map}
 use lib.ListN.{length, take, replicate}
 use Rattle.wire.specs.Varint.{Number, value, fault, numberAt}
 use Rattle.wire.specs.Layout.{Block, block, faulty, entriesFrom}
-use Rattle.wire.specs.Fault.{Fault, at}
+use Rattle.fault.specs.Fault.{Fault, at}
 
 -- The faults of a number at a place.
 abbrev pub ofNumber : ℕ → Number → List Fault

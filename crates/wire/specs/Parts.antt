@@ -4,9 +4,9 @@ use Prim.Native.Nat.{ℕ, _≤_}
 use mathlib.Core.List.{List, []}
 use Rattle.wire.specs.Varint.{Number, value, fault}
 use Rattle.wire.specs.Layout.{Block, block, faulty, blockAt, afterBlock}
-use Rattle.wire.specs.Fault.{Reading, readAs, refused, judged}
+use Rattle.fault.specs.Fault.{Reading, readAs, refused, judged}
 use Rattle.wire.specs.Lists.{ofList, suitesIn, entries, padded}
-use Rattle.wire.specs.Refusals.{refusalNumber}
+use Rattle.fault.specs.Refusals.{refusalNumber}
 use Rattle.wire.specs.declared.varint.Varint.{Varint}
 use Rattle.wire.specs.declared.varint.Varint.the-variants as varint
 use Rattle.wire.specs.declared.block.Block as part

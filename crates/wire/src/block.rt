@@ -2,9 +2,9 @@
 ghost use mathlib.Core.Path.{_≡_};
 ghost use Rattle.wire.specs.Layout.{blockAt};
 ghost use Rattle.wire.specs.Parts.{blockOf};
-use crate::Refusal;
 use crate::varint::Varint;
 use crate::varint::number;
+use fault::Refusal;
 
 // Where its bytes begin, and how many they are.
 pub enum Block {

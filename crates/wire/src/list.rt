@@ -4,11 +4,11 @@ ghost use mathlib.Core.List.{[]};
 ghost use Rattle.wire.specs.Bytes.{listFrom};
 ghost use Rattle.wire.specs.Lists.{padded};
 ghost use Rattle.wire.specs.Parts.{Stored, packedAt, packedOf};
-use crate::Refusal;
 use crate::block::Block;
 use crate::block::block_at;
 use crate::varint::Varint;
 use crate::varint::entry;
+use fault::Refusal;
 
 const MAX_ENTRIES: usize = 16;
 

@@ -7,7 +7,7 @@ ghost use lib.ListN.{length};
 ghost use Rattle.wire.specs.Varint.{value, fault, said, numberFrom, numberAt, bitAt};
 ghost use Rattle.wire.specs.Bytes.{SaidBy};
 ghost use Rattle.wire.specs.Parts.{numberOf};
-use crate::Refusal;
+use fault::Refusal;
 
 // The lowest byte that announces another.
 const MORE: u64 = 128;

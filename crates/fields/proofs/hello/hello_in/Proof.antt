@@ -5,7 +5,7 @@ use Prim.Native.Nat.{ℕ}
 use native.Mathlib.Omega.{arith}
 use lib.Seq.{length-take-le}
 use borrow.Author.Needs.{needs}
-use Rattle.wire.specs.declared.Refusal.the-variants.{UnexpectedField}
+use Rattle.fault.specs.declared.Refusal.the-variants.{UnexpectedField}
 use Rattle.fields.specs.Steps.{HelloCounts, helloIn}
 use Rattle.fields.specs.declared.hello.Hello.{Hello}
 use Rattle.fields.proofs.Inner.{inner-read, inner-refused, inner-trailing, reads-as, reads-hello, reads-refused}

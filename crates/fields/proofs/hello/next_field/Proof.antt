@@ -19,79 +19,37 @@ use Rattle.fields.proofs.hello.next_field.Tie as tie
 key-read : (s : tie.After-key2) → numberAt (s .before .before .before .before .args .bytes .now) (s .before .before .before .before .args .place) ≡ value (s .key2 .given .0 .0) (s .key2 .given .0 .1 .0)
 key-read s = sym (s .before .before .number .ensures) ∙ ap numberOf (s .key2 .given .1)
 
--- A key that fits announces what its field holds.
-token-fits : (s : tie.Then1) (f : Fields) → f .read ≡ helloMarks (s .before .before .before .before .before .before .before .args .read) → (step : Step) (p v : List ℕ) →
-    let k = s .before .before .before in
-    let a = k .before .before .before .before .args in
-    ContentStep Bytes (a .bytes .now) (k .key2 .given .0 .1 .0) (withMark Bytes f) (a .provers .now) (a .verifiers .now) step p v → FieldStep 1 (a .bytes .now) (a .place) f (a .provers .now) (a .verifiers .now) step p v
-unfolding formIn
-token-fits s f m step p v =
-    let k = s .before .before .before in
-    let a = k .before .before .before .before .args in
-    let t = is-met (k .key2 .given .0 .0) 10 (a .read .token) (s .if1 .taken) in
-    key-met 1 (a .bytes .now) (a .place) f (a .provers .now) (a .verifiers .now) _ _ (key-read k) 10 (t .0) Bytes refl refl refl (ap (isRead Bytes) m ∙ t .1) step p v
-
-provers-fits : (s : tie.Then2) (f : Fields) → f .read ≡ helloMarks (s .before .before .before .before .before .before .before .before .before .args .read) → (step : Step) (p v : List ℕ) →
-    let k = s .before .before .before .before .before in
-    let a = k .before .before .before .before .args in
-    ContentStep Provers (a .bytes .now) (k .key2 .given .0 .1 .0) (withMark Provers f) (a .provers .now) (a .verifiers .now) step p v → FieldStep 1 (a .bytes .now) (a .place) f (a .provers .now) (a .verifiers .now) step p v
-unfolding formIn
-provers-fits s f m step p v =
-    let k = s .before .before .before .before .before in
-    let a = k .before .before .before .before .args in
-    let t = is-met (k .key2 .given .0 .0) 18 (a .read .provers) (s .if2 .taken) in
-    key-met 1 (a .bytes .now) (a .place) f (a .provers .now) (a .verifiers .now) _ _ (key-read k) 18 (t .0) Provers refl refl refl (ap (isRead Provers) m ∙ t .1) step p v
-
-verifiers-fits : (s : tie.Then3) (f : Fields) → f .read ≡ helloMarks (s .before .before .before .before .before .before .before .before .before .before .before .args .read) → (step : Step) (p v : List ℕ) →
-    let k = s .before .before .before .before .before .before .before in
-    let a = k .before .before .before .before .args in
-    ContentStep Verifiers (a .bytes .now) (k .key2 .given .0 .1 .0) (withMark Verifiers f) (a .provers .now) (a .verifiers .now) step p v → FieldStep 1 (a .bytes .now) (a .place) f (a .provers .now) (a .verifiers .now) step p v
-unfolding formIn
-verifiers-fits s f m step p v =
-    let k = s .before .before .before .before .before .before .before in
-    let a = k .before .before .before .before .args in
-    let t = is-met (k .key2 .given .0 .0) 26 (a .read .verifiers) (s .if3 .taken) in
-    key-met 1 (a .bytes .now) (a .place) f (a .provers .now) (a .verifiers .now) _ _ (key-read k) 26 (t .0) Verifiers refl refl refl (ap (isRead Verifiers) m ∙ t .1) step p v
-
 returns : tie.Need-returns
+unfolding formIn
 returns c =
-    let s = c .before .before .before .before in
-    let e = sym (c .before .before .before .«block-at» .ensures) ∙ ap blockOf (c .before .part .given .1) in
-    λ f m. token-fits s f m _ _ _ (content-faulty _ _ f _ _ Bytes _ (ap (ofBytes _) e))
+    let k = c .before .before .before .before in
+    let a = k .before .before .before .before .args in
+    let t = is-met _ 10 (a .read .token) (c .before .if1 .taken) in
+    λ f m. key-met 1 (a .bytes .now) (a .place) f (a .provers .now) (a .verifiers .now) _ _ (key-read k) 10 (t .0) Bytes refl refl refl (ap (isRead Bytes) m ∙ t .1) _ _ _ (c .«token-at» .ensures f (a .provers .now) (a .verifiers .now))
 
 returns-2 : tie.Need-returns-2
+unfolding formIn
 returns-2 c =
-    let s = c .before .before .before .before in
-    let e = sym (c .before .before .before .«block-at» .ensures) ∙ ap blockOf (c .before .part2 .given .1) in
-    λ f m. token-fits s f m _ _ _ (bytes-read _ _ f _ _ _ _ e)
+    let k = c .before .before .before .before .before .before .before in
+    let a = k .before .before .before .before .args in
+    let t = is-met _ 18 (a .read .provers) (c .before .before .if2 .taken) in
+    λ f m. key-met 1 (a .bytes .now) (a .place) f (a .provers .now) (a .verifiers .now) _ _ (key-read k) 18 (t .0) Provers refl refl refl (ap (isRead Provers) m ∙ t .1) _ _ _ (c .«provers-at» .ensures f (a .provers .now) (a .verifiers .now))
 
 returns-3 : tie.Need-returns-3
+unfolding formIn
 returns-3 c =
-    let p = c .before .before .before .«packed-at» in
-    λ f m. provers-fits (c .before .before .before .before .before) f m _ _ _ (provers-faulty _ _ f _ _ _ _ (p .ensures .0) (p .ensures .1) _ (c .before .list .given .1))
+    let k = c .before .before .before .before .before .before .before .before .before in
+    let a = k .before .before .before .before .args in
+    let t = is-met _ 26 (a .read .verifiers) (c .before .before .if3 .taken) in
+    λ f m. key-met 1 (a .bytes .now) (a .place) f (a .provers .now) (a .verifiers .now) _ _ (key-read k) 26 (t .0) Verifiers refl refl refl (ap (isRead Verifiers) m ∙ t .1) _ _ _ (c .«verifiers-at» .ensures f (a .provers .now) (a .verifiers .now))
 
 returns-4 : tie.Need-returns-4
 returns-4 c =
-    let p = c .before .before .before .«packed-at» in
-    λ f m. provers-fits (c .before .before .before .before .before) f m _ _ _ (provers-read _ _ f _ _ _ _ (p .ensures .0) (p .ensures .1) _ _ (c .before .list2 .given .1))
-
-returns-5 : tie.Need-returns-5
-returns-5 c =
-    let p = c .before .before .before .«packed-at2» in
-    λ f m. verifiers-fits (c .before .before .before .before .before) f m _ _ _ (verifiers-faulty _ _ f _ _ _ _ (p .ensures .0) (p .ensures .1) _ (c .before .list3 .given .1))
-
-returns-6 : tie.Need-returns-6
-returns-6 c =
-    let p = c .before .before .before .«packed-at2» in
-    λ f m. verifiers-fits (c .before .before .before .before .before) f m _ _ _ (verifiers-read _ _ f _ _ _ _ (p .ensures .0) (p .ensures .1) _ _ (c .before .list4 .given .1))
-
-returns-7 : tie.Need-returns-7
-returns-7 c =
     let a = c .before .before .before .before .before .args in
     λ f m. key-faulty 1 (a .bytes .now) (a .place) f (a .provers .now) (a .verifiers .now) _ (sym (c .before .before .before .number .ensures) ∙ ap numberOf (c .before .key .given .1))
 
-returns-8 : tie.Need-returns-8
-returns-8 c =
+returns-5 : tie.Need-returns-5
+returns-5 c =
     let s = c .before .before .before .before in
     let k = s .before .before .before .before .before .before .before in
     let a = k .before .before .before .before .args in
@@ -107,20 +65,11 @@ next-field-spec =
     (λ c. search needs)
     (λ c. search needs)
     (λ c κs. search needs)
-    (λ c. search needs)
-    (λ c. search needs)
     returns
+    (λ c κs. search needs)
     returns-2
     (λ c κs. search needs)
-    (λ c. search needs)
-    (λ c. search needs)
     returns-3
+    (λ c κs. search needs)
     returns-4
-    (λ c κs. search needs)
-    (λ c. search needs)
-    (λ c. search needs)
-    returns-5
-    returns-6
-    (λ c κs. search needs)
-    returns-7
-    returns-8)
+    returns-5)

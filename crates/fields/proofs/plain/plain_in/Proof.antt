@@ -3,7 +3,7 @@ use mathlib.Core.Path.{sym, ap, _∙_}
 use native.Mathlib.Omega.{arith}
 use lib.Seq.{length-take-le}
 use borrow.Author.Needs.{needs}
-use Rattle.wire.specs.declared.Refusal.the-variants.{UnexpectedField}
+use Rattle.fault.specs.declared.Refusal.the-variants.{UnexpectedField}
 use Rattle.fields.specs.Steps.{plainIn}
 use Rattle.fields.proofs.Inner.{inner-read, inner-refused, inner-trailing, reads-as, reads-plain, reads-refused}
 use Rattle.fields.proofs.plain.plain_in.Statement.{statement}

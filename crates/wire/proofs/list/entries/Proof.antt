@@ -5,7 +5,7 @@ use Prim.Native.Nat.{ℕ, suc, _+_, _-_, _<_, _≤_}
 use native.Mathlib.Omega.{arith}
 use lib.ListN.{length, length-append}
 use borrow.Author.Needs.{needs}
-use Rattle.wire.specs.Fault.{judged}
+use Rattle.fault.specs.Fault.{judged}
 use Rattle.wire.specs.Layout.{entriesFrom}
 use Rattle.wire.specs.Lists.{ofEntries, suitesFrom, entries, padded}
 use Rattle.wire.specs.Bytes.{listFrom}

@@ -8,8 +8,8 @@ use Prim.Native.Nat.{ℕ, _≤_}
 use native.Mathlib.Omega.{arith}
 use lib.Dec.{eqb, ltb}
 use borrow.Author.Tests.{ltb-true, ltb-false, eqb-true, eqb-false}
-use Rattle.wire.specs.Fault.{Fault, FirstIn, before, firstOf, leftmost, readAs, refused, byFirst}
-use Rattle.wire.proofs.Order.{IsRead, IsRefused, absurd-bool, not-before, number-of, read-or}
+use Rattle.fault.specs.Fault.{Fault, FirstIn, before, firstOf, leftmost, readAs, refused, byFirst}
+use Rattle.fault.proofs.Order.{IsRead, IsRefused, absurd-bool, not-before, number-of, read-or}
 
 -- Only an empty list has no first fault.
 abbrev IsSome : Option Fault → Type 0

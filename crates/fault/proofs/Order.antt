@@ -8,7 +8,7 @@ use native.Mathlib.Decide.{ℕ-discrete}
 use native.Mathlib.Omega.{arith}
 use lib.Dec.{eqb, ltb}
 use borrow.Author.Tests.{le-ltb, ne-eqb}
-use Rattle.wire.specs.Fault.{Fault, before, firstOf, leftmost, Reading, readAs, refused, byFirst, judged}
+use Rattle.fault.specs.Fault.{Fault, before, firstOf, leftmost, Reading, readAs, refused, byFirst, judged}
 
 pub absurd-bool {ℓ} : {X : Type ℓ} → true ≡ false → X
 absurd-bool e = absurd (subst if-true e tt)
