@@ -4,21 +4,25 @@ use mathlib.Core.Bool.{Bool, true, false, cond}
 use mathlib.Core.List.{List, [], _∷_}
 use Prim.Native.Nat.{ℕ, _+_}
 use lib.Dec.{ltb}
+use Rattle.fault.specs.Fault.{at, leftmost, readAs, refused, judged}
+use Rattle.fault.specs.Refusals.{refusalNumber}
+use Rattle.fault.specs.declared.Refusal.{Refusal}
+use Rattle.fault.proofs.Order.{same-refused, same-read}
 use Rattle.wire.specs.Varint.{Number, value, fault, numberAt, asBit, bitAt}
 use Rattle.wire.specs.Layout.{block, blockAt, afterBlock}
-use Rattle.fault.specs.Fault.{at, leftmost, readAs, refused, judged}
-use Rattle.wire.specs.Lists.{ofList, suitesIn, entries}
-use Rattle.fault.specs.Refusals.{refusalNumber}
-use Rattle.wire.specs.Parts.{Holds, Listed, Stored, listed, packedAt, packedOf}
-use Rattle.fault.specs.declared.Refusal.{Refusal}
+use Rattle.wire.specs.Lists.{ofList, ofNumber, suitesIn, entries}
+use Rattle.wire.specs.Parts.{Holds, Listed, Stored, blockOf, listed, numberOf, packedAt, packedOf}
+use Rattle.wire.specs.declared.block.Block as part
+use Rattle.wire.specs.declared.block.Block.the-variants as part-is
 use Rattle.wire.specs.declared.list.Packed.{Packed}
 use Rattle.wire.specs.declared.list.Packed.the-variants as packed
-use Rattle.fault.proofs.Order.{same-refused, same-read}
+use Rattle.wire.specs.declared.varint.Varint.{Varint}
+use Rattle.wire.specs.declared.varint.Varint.the-variants as varint
 use Rattle.fields.specs.Schema.{Form, Bytes, Provers, Verifiers, Bit}
-use Rattle.fields.specs.Faults.{ofContent}
+use Rattle.fields.specs.Faults.{ofBytes, ofContent}
 use Rattle.fields.specs.Message.{made}
-use Rattle.fields.specs.Fields.{Fields, marked, proceed, seenIn, stage, stop, withMark, withBytes, withBit, withProvers, withVerifiers}
-use Rattle.fields.specs.Steps.{ContentStep}
+use Rattle.fields.specs.Fields.{Fields, Step, marked, proceed, seenIn, stage, stop, withMark, withBytes, withBit, withProvers, withVerifiers}
+use Rattle.fields.specs.Steps.{Content, ContentStep}
 
 abbrev is-fault : Number → Type 0
 is-fault (value number next) = ⊥
@@ -32,25 +36,38 @@ as-number (value number q) bit after e = by-size (ltb 1 number) e
     by-size false e = e
 as-number (fault refusal) bit after e = absurd (subst is-fault e tt)
 
-module _ (bytes : List ℕ) (place : ℕ) (f : Fields) (provers verifiers : List ℕ) where
+-- What bytes, and what a bit, add to the fields before them.
+abbrev blockStep : part.Block → Fields → Step
+blockStep (part-is.Bytes start size) f = proceed (withBytes start size f) (start + size)
+blockStep (part-is.Fault refusal) f = stop refusal
+
+abbrev bitStep : Varint → Fields → Step
+bitStep (varint.Number bit after) f = proceed (withBit bit f) after
+bitStep (varint.Fault refusal) f = stop refusal
+
+module _ (bytes : List ℕ) (place : ℕ) where
   -- One fault, at the place of the content.
-  pub content-faulty : (form : Form) (refusal : Refusal) → ofContent form bytes place ≡ (at place (refusalNumber refusal) ∷ []) →
-      ContentStep form bytes place (withMark form f) provers verifiers (stop refusal) provers verifiers
+  content-faulty : (form : Form) (refusal : Refusal) → ofContent form bytes place ≡ (at place (refusalNumber refusal) ∷ []) →
+      (f : Fields) (provers verifiers : List ℕ) → ContentStep form bytes place (withMark form f) provers verifiers (stop refusal) provers verifiers
   unfolding leftmost
-  content-faulty form refusal e = record { reads = λ number. rw (e); tidies = λ t. tt }
+  content-faulty form refusal e f provers verifiers = record { reads = λ number. rw (e); tidies = λ t. tt }
 
-  pub bytes-read : (start size : ℕ) → blockAt bytes place ≡ block start size →
-      ContentStep Bytes bytes place (withMark Bytes f) provers verifiers
-      (proceed (withBytes start size f) (start + size)) provers verifiers
+  -- What was found at the place.
+  pub bytes-content : (b : part.Block) → blockOf b ≡ blockAt bytes place → (d : part.Block) → b ≡ d → Content Bytes bytes place (blockStep d)
   unfolding leftmost
-  bytes-read start size e = record { reads = λ number. rw (e); tidies = λ t. t }
+  bytes-content b e (part-is.Bytes start size) q f provers verifiers =
+      let found : blockAt bytes place ≡ block start size = sym e ∙ ap blockOf q in
+      record { reads = λ number. rw (found); tidies = λ t. t }
+  bytes-content b e (part-is.Fault refusal) q f provers verifiers = content-faulty Bytes refusal (ap (ofBytes place) (sym e ∙ ap blockOf q)) f provers verifiers
 
-  pub bit-read : (bit after : ℕ) → bitAt bytes place ≡ value bit after →
-      ContentStep Bit bytes place (withMark Bit f) provers verifiers
-      (proceed (withBit bit f) after) provers verifiers
+  pub bit-content : (v : Varint) → numberOf v ≡ bitAt bytes place → (w : Varint) → v ≡ w → Content Bit bytes place (bitStep w)
   unfolding leftmost
-  bit-read bit after e = record { reads = λ number. rw (e, as-number (numberAt bytes place) bit after e); tidies = λ t. t }
+  bit-content v e (varint.Number bit after) q f provers verifiers =
+      let found : bitAt bytes place ≡ value bit after = sym e ∙ ap numberOf q in
+      record { reads = λ number. rw (found, as-number (numberAt bytes place) bit after found); tidies = λ t. t }
+  bit-content v e (varint.Fault refusal) q f provers verifiers = content-faulty Bit refusal (ap (ofNumber place) (sym e ∙ ap numberOf q)) f provers verifiers
 
+module _ (bytes : List ℕ) (place : ℕ) (f : Fields) (provers verifiers : List ℕ) where
   -- Lists of suites: both forms have the faults of a packed list.
   module _ (list : List ℕ) (r : Packed) (e : packedOf r list ≡ packedAt bytes place) (holds : Stored r list) where
     module _ (refusal : Refusal) (h : r ≡ packed.Fault refusal) where

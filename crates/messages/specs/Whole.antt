@@ -26,10 +26,10 @@ Opened (outer.Message number place) bytes = ((1 ≤ number) × (number ≤ 9)) �
 Opened (outer.Fault refusal) bytes = readingOf bytes ≡ refused (refusalNumber refusal)
 
 -- A hello's counts are at most 16, and a message without lists has one of the eight numbers.
-abbrev pub Known : Contents → Type 0
-Known (Hello held) = (held .provers ≤ 16) × (held .verifiers ≤ 16)
-Known (Plain number part bit) = (2 ≤ number) × (number ≤ 9)
-Known (Fault refusal) = Unit {0}
+abbrev pub KnownContents : Contents → Type 0
+KnownContents (Hello held) = (held .provers ≤ 16) × (held .verifiers ≤ 16)
+KnownContents (Plain number part bit) = (2 ≤ number) × (number ≤ 9)
+KnownContents (Fault refusal) = Unit {0}
 
 -- What is made of a thing that was read.
 abbrev pub mapped : {A B : Type 0} → (A → B) → Reading A → Reading B
@@ -50,7 +50,7 @@ carried m =
 -- The enum says what the contents say of the parts that the message carries.
 abbrev pub MessageAs : Contents → answer.Message → Type 0
 MessageAs c r =
-    Known c → ((provers verifiers : List ℕ) → readingIn r provers verifiers ≡ mapped carried (contentsIn c provers verifiers)) × CountsFit r
+    KnownContents c → ((provers verifiers : List ℕ) → readingIn r provers verifiers ≡ mapped carried (contentsIn c provers verifiers)) × CountsFit r
 
 -- The numbers of contents.
 abbrev pub flatOf : Contents → FlatMessage

@@ -37,7 +37,7 @@ pub enum Message {
     Refused(Refusal),
 }
 
-// The enum of what a message holds.
+// The enum of what a message holds. Its number is one of the nine.
 fn message_of(contents: Contents) -> Message
     ensures { λ r. ⌜ MessageAs contents r ⌝ }
 {

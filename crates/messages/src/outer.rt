@@ -2,7 +2,7 @@
 ghost use mathlib.Core.Path.{_≡_};
 ghost use Rattle.fields.specs.Contents.{contentsIn, proversAfter, verifiersAfter};
 ghost use Rattle.messages.specs.Outer.{readingOf};
-ghost use Rattle.messages.specs.Whole.{Known, Opened};
+ghost use Rattle.messages.specs.Whole.{KnownContents, Opened};
 use fault::Refusal;
 use fields::Contents;
 use fields::read_at;
@@ -10,6 +10,7 @@ use fields::schema;
 use wire::Varint;
 use wire::number;
 
+// The keys of the nine messages, of any wire type, begin with the first of these and end before the second.
 const FIRST_KEY: u32 = schema::HELLO * schema::WIRE_TYPES;
 
 const PAST_KEYS: u32 = (schema::ACK + 1) * schema::WIRE_TYPES;
@@ -42,7 +43,7 @@ fn outer_field(bytes: &[u8]) -> Outer
     }
 }
 
-// What the bytes hold as one message.
+// What one message holds, from its first byte on.
 pub(crate) fn contents_of(
     bytes: &[u8],
     provers: &mut [u32; 16],
@@ -51,7 +52,7 @@ pub(crate) fn contents_of(
     ensures { λ r. ⌜ contentsIn r (now (provers .exit)) (now (verifiers .exit)) ≡ readingOf (now (bytes .entry)) ⌝ }
     ensures { λ _. ⌜ now (provers .exit) ≡ proversAfter (readingOf (now (bytes .entry))) (now (provers .entry)) ⌝ }
     ensures { λ _. ⌜ now (verifiers .exit) ≡ verifiersAfter (readingOf (now (bytes .entry))) (now (verifiers .entry)) ⌝ }
-    ensures { λ r. ⌜ Known r ⌝ }
+    ensures { λ r. ⌜ KnownContents r ⌝ }
 {
     let found = outer_field(bytes);
     match found {

@@ -5,7 +5,7 @@ use native.Mathlib.Omega.{arith}
 use borrow.Author.Needs.{needs}
 use Rattle.fields.specs.Contents.{contentsIn}
 use Rattle.fields.specs.declared.Contents.{Contents}
-use Rattle.messages.specs.Whole.{Known, carried, mapped}
+use Rattle.messages.specs.Whole.{KnownContents, carried, mapped}
 use Rattle.messages.proofs.Answers.{says-plain}
 use Rattle.messages.proofs.message_of.Statement.{statement}
 use Rattle.messages.proofs.message_of.Tie as tie
@@ -24,7 +24,7 @@ message-of-spec =
     (λ c. search needs)
     (λ c. search needs)
     (λ c. search needs)
-    (λ c k. let e = c .before .contents .given .1 in (λ p v. ap (λ (q : Contents). mapped carried (contentsIn q p v)) (sym e), subst Known e k))
+    (λ c k. let e = c .before .contents .given .1 in (λ p v. ap (λ (q : Contents). mapped carried (contentsIn q p v)) (sym e), subst KnownContents e k))
     (λ c k. (says-plain _ _ _ _ (c .before .before .contents2 .given .1) 2 (λ h. c .match2 .keys1) k, tt))
     (λ c k. (says-plain _ _ _ _ (c .before .before .contents2 .given .1) 3 (λ h. c .match2 .keys2) k, tt))
     (λ c k. (says-plain _ _ _ _ (c .before .before .contents2 .given .1) 4 (λ h. c .match2 .keys3) k, tt))

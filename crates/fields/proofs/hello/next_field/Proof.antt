@@ -1,15 +1,11 @@
 -- `fields::hello::next_field` meets its contract.
 use mathlib.Core.Path.{_≡_, refl, sym, ap, _∙_}
-use mathlib.Core.List.{List}
-use Prim.Native.Nat.{ℕ}
 use borrow.Author.Needs.{needs}
-use Rattle.wire.specs.Parts.{blockOf, numberOf}
+use Rattle.wire.specs.Parts.{numberOf}
 use Rattle.wire.specs.Varint.{numberAt, value}
 use Rattle.fields.specs.Schema.{Bytes, Provers, Verifiers, formIn}
-use Rattle.fields.specs.Faults.{ofBytes}
-use Rattle.fields.specs.Fields.{Fields, Step, isRead, withMark}
-use Rattle.fields.specs.Steps.{ContentStep, FieldStep, helloMarks}
-use Rattle.fields.proofs.Content.{bytes-read, content-faulty, provers-faulty, provers-read, verifiers-faulty, verifiers-read}
+use Rattle.fields.specs.Fields.{isRead}
+use Rattle.fields.specs.Steps.{helloMarks}
 use Rattle.fields.proofs.FittingKeys.{hello-refuses, is-met}
 use Rattle.fields.proofs.OneField.{key-faulty, key-met, key-refused}
 use Rattle.fields.proofs.hello.next_field.Statement.{statement}
