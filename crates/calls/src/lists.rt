@@ -2,10 +2,10 @@
 use scan::numbers;
 
 // The most entries of a list that are understood.
-pub const ENTRIES: usize = 32;
+pub(crate) const ENTRIES: usize = 32;
 
 // Whether four groups are lists. The index of the first has 32 bits, so that those of the others fit.
-pub fn are_understood(row: &[u8], first: u32) -> bool {
+pub(crate) fn are_understood(row: &[u8], first: u32) -> bool {
     let group = first as usize;
     let mut entries = [0u32; ENTRIES];
     let a = numbers(row, group, &mut entries);
@@ -16,7 +16,7 @@ pub fn are_understood(row: &[u8], first: u32) -> bool {
 }
 
 // The list that a group is, read into lent entries.
-pub fn list<'a>(row: &[u8], group: usize, entries: &'a mut [u32]) -> &'a [u32] {
+pub(crate) fn list<'a>(row: &[u8], group: usize, entries: &'a mut [u32]) -> &'a [u32] {
     let found = numbers(row, group, entries);
     let len = found.len;
     let read = &entries[..];

@@ -7,7 +7,7 @@ use lib.ListN.{length, take, drop}
 use borrow.Author.Tests.{le-ltb, ne-eqb}
 use Rattle.connection.specs.Also.{resultAlso}
 use Rattle.flat.specs.Flat.{recordIn}
-use Rattle.inbound.specs.Arrival.{alsoOf, codeOf}
+use Rattle.arrival.specs.Arrival.{alsoOf, codeOf}
 use Rattle.inbound.specs.Received.{Given, callFrom, given, received, receivedAs}
 use Rattle.messages.proofs.Lengths.{all-there}
 use Rattle.fault.specs.Fault.{Reading, readAs, refused}

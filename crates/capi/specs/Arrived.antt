@@ -6,9 +6,9 @@ use mathlib.Core.List.{List, []}
 use lib.Dec.{eqb, ltb}
 use lib.ListN.{length, take, drop}
 use Rattle.flat.specs.Flat.{recordIn}
-use Rattle.inbound.specs.Arrival.{codeOf}
+use Rattle.arrival.specs.Arrival.{codeOf}
 use Rattle.inbound.specs.Received.{given, received}
-use Rattle.inbound.specs.declared.Token.{Token}
+use Rattle.arrival.specs.declared.Token.{Token}
 use Rattle.protocol.specs.Step.{resultWith, unchanged}
 use Rattle.protocol.specs.declared.Answer.the-variants.{Refused}
 use Rattle.messages.specs.Flat.{readingBy}

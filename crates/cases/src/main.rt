@@ -1,6 +1,8 @@
 // Reads the rows of worked cases from standard input and prints what each gives. The top of crates/cases/stdin describes
 // their form.
-use rows::answer_line;
+mod lines;
+
+use crate::lines::answer_line;
 
 // Nothing says that the input ends, so its lines are counted.
 fn main() {

@@ -19,22 +19,8 @@ use Rattle.fields.specs.Message as spec
 use Rattle.wire.specs.Lists.{entries}
 use Rattle.messages.specs.Numbers.{partOf}
 use Rattle.messages.specs.declared.flat.FlatMessage.{FlatMessage}
-use Rattle.inbound.specs.Arrival.{alsoOf, codeOf, eventOf, firstEntries}
-use Rattle.inbound.specs.Received.{Given, placeIn, received, receivedAs}
-
--- A number that is no message's has no event's code.
-pub no-event : (n : ℕ) → (n ≡ 1 → ⊥) → (n ≡ 2 → ⊥) → (n ≡ 3 → ⊥) → (n ≡ 4 → ⊥) → (n ≡ 5 → ⊥) → (n ≡ 6 → ⊥) → (n ≡ 7 → ⊥) → (n ≡ 8 → ⊥) → (n ≡ 9 → ⊥) → 24 ≡ codeOf n
-no-event zero a b c d e f g h i = refl
-no-event (suc zero) a b c d e f g h i = absurd (a refl)
-no-event (suc (suc zero)) a b c d e f g h i = absurd (b refl)
-no-event (suc (suc (suc zero))) a b c d e f g h i = absurd (c refl)
-no-event (suc (suc (suc (suc zero)))) a b c d e f g h i = absurd (d refl)
-no-event (suc (suc (suc (suc (suc zero))))) a b c d e f g h i = absurd (e refl)
-no-event (suc (suc (suc (suc (suc (suc zero)))))) a b c d e f g h i = absurd (f refl)
-no-event (suc (suc (suc (suc (suc (suc (suc zero))))))) a b c d e f g h i = absurd (g refl)
-no-event (suc (suc (suc (suc (suc (suc (suc (suc zero)))))))) a b c d e f g h i = absurd (h refl)
-no-event (suc (suc (suc (suc (suc (suc (suc (suc (suc zero))))))))) a b c d e f g h i = absurd (i refl)
-no-event (suc (suc (suc (suc (suc (suc (suc (suc (suc (suc n)))))))))) a b c d e f g h i = refl
+use Rattle.arrival.specs.Arrival.{alsoOf, eventOf}
+use Rattle.inbound.specs.Received.{Given, firstEntries, placeIn, received, receivedAs}
 
 -- The first entries of a list of sixteen.
 pub first-entries : (count : ℕ) (list : List ℕ) → length list ≡ 16 → count ≤ 16 → firstEntries count list ≡ entries count list

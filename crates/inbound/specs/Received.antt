@@ -1,6 +1,9 @@
 -- Request #101, "Joined to the step": what the host gets for a message that arrived.
 use Prim.Native.Nat.{ℕ}
+use mathlib.Core.Bool.{cond}
 use mathlib.Core.List.{List, []}
+use lib.Dec.{ltb}
+use lib.ListN.{length, take}
 use Rattle.connection.specs.Also.{resultAlso}
 use Rattle.event.specs.Call.{Call, callOf}
 use Rattle.protocol.specs.Step.{Result, resultWith, unchanged}
@@ -10,8 +13,8 @@ use Rattle.fault.specs.Fault.{Reading, readAs, refused}
 use Rattle.fields.specs.Message.{Message}
 use Rattle.messages.specs.Outer.{readingOf}
 use Rattle.messages.specs.Numbers.{partOf}
-use Rattle.inbound.specs.Arrival.{alsoOf, eventOf}
-use Rattle.inbound.specs.declared.Token.{Token}
+use Rattle.arrival.specs.Arrival.{alsoOf, eventOf}
+use Rattle.arrival.specs.declared.Token.{Token}
 
 -- What the host gives with the bytes: what it says of the token, what its interface refuses of the token or 0 (`resultAlso`),
 -- and its own lists.
@@ -46,3 +49,7 @@ received connection bytes g cache = receivedAs connection (readingOf bytes) byte
 abbrev pub placeIn : Reading Message → ℕ
 placeIn (readAs m) = m .place
 placeIn (refused number) = 0
+
+-- The first entries of a list; none where it has not so many.
+abbrev pub firstEntries : (count : ℕ) → List ℕ → List ℕ
+firstEntries count list = cond (ltb (length list) count) [] (take count list)

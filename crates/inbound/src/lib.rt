@@ -2,11 +2,11 @@
 ghost use mathlib.Core.Path.{_≡_};
 ghost use Rattle.flat.specs.Flat.{recordIn, slotsOf};
 ghost use Rattle.messages.specs.Outer.{readingOf};
-ghost use Rattle.inbound.specs.Arrival.{alsoOf, codeOf, eventOf, eventWith, firstEntries};
-ghost use Rattle.inbound.specs.Received.{given, placeIn, received};
+ghost use Rattle.inbound.specs.Received.{firstEntries, given, placeIn, received};
+use arrival::Token;
+use arrival::also_of;
+use arrival::event_of;
 use connection::Answer;
-use connection::Event;
-use connection::codes;
 use connection::refusals;
 use connection::step_flat;
 use effects::NO_ACTIONS;
@@ -14,74 +14,11 @@ use flat::slots_of;
 use messages::Span;
 use messages::part;
 use messages::read_flat;
-use messages::schema;
-
-// A code that no event has: a step with it is refused.
-const NO_EVENT: u32 = 24;
-
-// What the host says of a token: its verdict on the signature, how many seconds before its expiry it counts as spent,
-// when it expires and the time now, in seconds.
-pub struct Token {
-    pub verdict: bool,
-    pub margin: u32,
-    pub expiry: i64,
-    pub now: i64,
-}
 
 // The answer, and where the token or payload lies in the bytes.
 pub struct Receipt {
     pub answer: Answer,
     pub place: usize,
-}
-
-// The code of the event that a message is, by the message's number.
-pub fn code_of(number: u32) -> u32
-    ensures { λ r. ⌜ r ≡ codeOf number ⌝ }
-{
-    match number {
-        schema::HELLO => codes::SC_HELLO,
-        schema::CLOSE => codes::SC_CLOSE,
-        schema::DAT_EXPIRED => codes::SC_DAT_EXPIRED,
-        schema::DAT => codes::SC_DAT,
-        schema::RE_RA => codes::SC_RE_RA,
-        schema::RA_PROVER => codes::SC_RA_PROVER,
-        schema::RA_VERIFIER => codes::SC_RA_VERIFIER,
-        schema::DATA => codes::SC_DATA,
-        schema::ACK => codes::SC_ACK,
-        _ => NO_EVENT,
-    }
-}
-
-// The event that a message is: its bit, and what the host says of the token.
-pub fn event_of(number: u32, bit: u32, token: Token) -> Event
-    ensures { λ r. ⌜ r ≡ eventOf number bit token ⌝ }
-{
-    event_with(code_of(number), bit, token)
-}
-
-fn event_with(code: u32, bit: u32, token: Token) -> Event
-    ensures { λ r. ⌜ r ≡ eventWith code bit token ⌝ }
-{
-    Event {
-        code,
-        tag: 0,
-        timer: 0,
-        bit,
-        verdict: token.verdict,
-        margin: token.margin,
-        expiry: token.expiry,
-        now: token.now,
-    }
-}
-
-// A refusal of the host's interface concerns the messages that carry a token.
-fn also_of(number: u32, token_refusal: u32) -> u32
-    ensures { λ r. ⌜ r ≡ alsoOf number «token_refusal» ⌝ }
-{
-    if (number == schema::HELLO) | (number == schema::DAT) {
-        return token_refusal;
-    }
-    refusals::NONE
 }
 
 // The first entries of a list; none where it has not so many.

@@ -8,6 +8,9 @@ use crate::decimal::digit;
 use crate::find;
 use crate::item;
 
+// The most bytes of a group that are understood.
+pub const BYTES: usize = 32_768;
+
 const STAR: u8 = b'*';
 
 // Two digits; at most 255 just where both are digits.

@@ -12,6 +12,7 @@ pub use decimal::Unsigned32;
 pub use decimal::number;
 pub use decimal::numbers;
 pub use decimal::signed;
+pub use hexadecimal::BYTES;
 pub use hexadecimal::bytes;
 
 const BLANK: u8 = b' ';

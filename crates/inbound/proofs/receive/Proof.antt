@@ -15,9 +15,8 @@ use Rattle.connection.specs.Also.{resultAlso}
 use Rattle.messages.specs.Outer.{readingOf}
 use Rattle.wire.specs.Lists.{entries}
 use Rattle.messages.specs.declared.flat.FlatMessage.{FlatMessage}
-use Rattle.inbound.specs.Arrival.{firstEntries}
 use Rattle.messages.proofs.Lengths.{provers-16, verifiers-16}
-use Rattle.inbound.specs.Received.{given, received}
+use Rattle.inbound.specs.Received.{firstEntries, given, received}
 use Rattle.inbound.proofs.Arrived.{arrived-refused, refused-place, arrived-read, read-place, first-entries}
 
 abbrev zeros : List ℕ

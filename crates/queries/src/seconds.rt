@@ -6,7 +6,8 @@ use scan::number;
 use scan::signed;
 use stdio::print;
 
-pub(crate) fn answer(row: &[u8]) -> bool {
+// Answers what follows the word; false where it is not understood.
+pub fn answer(row: &[u8]) -> bool {
     let expiry = signed(row, 0, 0);
     let at = signed(row, 0, 1);
     let margin = number(row, 0, 2);

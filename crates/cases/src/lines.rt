@@ -1,8 +1,4 @@
 // Lines of worked cases. A line is copied, or it is a row, which asks the library and is answered.
-mod choice;
-mod message;
-mod seconds;
-
 use check::same;
 use stdio::print;
 use stdio::read_line;
@@ -13,7 +9,7 @@ const LINE: usize = 4_096;
 const HASH: u8 = b'#';
 
 // Reads and answers the next line of standard input; `number` is the line's. False where the input has ended.
-pub fn answer_line(number: u64) -> bool {
+pub(crate) fn answer_line(number: u64) -> bool {
     let mut line = [0u8; LINE];
     let found = read_line(&mut line);
     if found.is_missing {
@@ -48,16 +44,16 @@ fn answer(line: &[u8]) -> bool {
 
 fn answer_row(word: &[u8], row: &[u8]) -> bool {
     if same(word, b"seconds") {
-        return seconds::answer(row);
+        return queries::seconds::answer(row);
     }
     if same(word, b"suites") {
-        return choice::answer(row);
+        return calls::choice::answer(row);
     }
     if same(word, b"message") {
-        return message::answer(row);
+        return queries::message::answer(row);
     }
     if same(word, b"step") {
-        return calls::answer(row);
+        return calls::step::answer(row);
     }
     false
 }

@@ -1,12 +1,13 @@
 // Rows `suites`: the suite choice, asked alone.
-use calls::lists::ENTRIES;
-use calls::lists::are_understood;
-use calls::lists::list;
+use crate::lists::ENTRIES;
+use crate::lists::are_understood;
+use crate::lists::list;
 use capi::menhotrac_choose_suites;
 use scan::groups;
 use stdio::print;
 
-pub(crate) fn answer(row: &[u8]) -> bool {
+// Answers what follows the word; false where it is not understood.
+pub fn answer(row: &[u8]) -> bool {
     if !(are_understood(row, 0) & (groups(row) == 4)) {
         return false;
     }

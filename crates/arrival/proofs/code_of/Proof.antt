@@ -1,7 +1,7 @@
--- `inbound::code_of` meets its contract.
-use Rattle.inbound.proofs.code_of.Statement.{statement}
-use Rattle.inbound.proofs.code_of.Tie as tie
-use Rattle.inbound.proofs.Arrived.{no-event}
+-- `arrival::code_of` meets its contract.
+use Rattle.arrival.proofs.code_of.Statement.{statement}
+use Rattle.arrival.proofs.code_of.Tie as tie
+use Rattle.arrival.proofs.NoEvent.{no-event}
 
 pub code-of-spec : {M : Type 1} → statement M
 code-of-spec =

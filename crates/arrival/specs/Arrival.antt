@@ -1,11 +1,11 @@
 -- Request #101, "Joined to the step": the event that a message is.
 use Prim.Native.Nat.{ℕ}
 use mathlib.Core.Bool.{_||_, cond}
-use mathlib.Core.List.{List, [], _∷_}
-use lib.Dec.{eqb, ltb}
-use lib.ListN.{length, getD, take}
+use mathlib.Core.List.{[], _∷_}
+use lib.Dec.{eqb}
+use lib.ListN.{getD}
 use Rattle.event.specs.declared.Event.{Event}
-use Rattle.inbound.specs.declared.Token.{Token}
+use Rattle.arrival.specs.declared.Token.{Token}
 
 -- The codes of the messages 1 to 9. Any other number gets 24, which is no event's code.
 abbrev pub codeOf : ℕ → ℕ
@@ -45,7 +45,3 @@ eventOf number bit token = eventWith (codeOf number) bit token
 -- carry one.
 abbrev pub alsoOf : (number tokenRefusal : ℕ) → ℕ
 alsoOf number tokenRefusal = cond (eqb number 1 || eqb number 4) tokenRefusal 0
-
--- The first entries of a list; none where it has not so many.
-abbrev pub firstEntries : (count : ℕ) → List ℕ → List ℕ
-firstEntries count list = cond (ltb (length list) count) [] (take count list)

@@ -1,9 +1,9 @@
--- `inbound::event_of` meets its contract.
-use Rattle.inbound.proofs.event_of.Statement.{statement}
-use Rattle.inbound.proofs.event_of.Tie as tie
+-- `arrival::event_of` meets its contract.
+use Rattle.arrival.proofs.event_of.Statement.{statement}
+use Rattle.arrival.proofs.event_of.Tie as tie
 use mathlib.Core.Path.{ap, _∙_}
 use Prim.Native.Nat.{ℕ}
-use Rattle.inbound.specs.Arrival.{eventWith}
+use Rattle.arrival.specs.Arrival.{eventWith}
 use borrow.Author.Needs.{needs}
 
 pub event-of-spec : {M : Type 1} → statement M

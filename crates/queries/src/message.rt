@@ -1,11 +1,12 @@
 // Rows `message`: the bytes of one message.
-use calls::BYTES;
 use capi::menhotrac_read;
+use scan::BYTES;
 use scan::bytes;
 use scan::groups;
 use stdio::print;
 
-pub(crate) fn answer(row: &[u8]) -> bool {
+// Answers what follows the word; false where it is not understood.
+pub fn answer(row: &[u8]) -> bool {
     let mut buffer = [0u8; BYTES];
     let found = bytes(row, 0, &mut buffer);
     if !(found.is_all & (groups(row) == 1)) {

@@ -1,6 +1,0 @@
--- `inbound::also_of` meets its contract.
-use Rattle.inbound.proofs.also_of.Statement.{statement}
-use Rattle.inbound.proofs.also_of.Tie as tie
-
-pub also-of-spec : {M : Type 1} → statement M
-also-of-spec = tie.close (tie.spec (λ c. rw (c .if1 .taken)) (λ c. rw (c .if1 .left)))
