@@ -23,8 +23,8 @@ abbrev pub code_of : ℕ → ℕ
 code_of number = get_or codes number 24
 
 -- The event that a message is, with what the host says of the token. A message carries no tag and names no timer.
-abbrev pub eventOf : (number bit : ℕ) → Token → Event
-eventOf number bit token = record {
+abbrev pub event_of : (number bit : ℕ) → Token → Event
+event_of number bit token = record {
   code = code_of number;
   tag = 0;
   timer = 0;
@@ -37,4 +37,4 @@ eventOf number bit token = record {
 
 -- What is promised of the event that a message is.
 abbrev pub EventGives : (number bit : ℕ) → Token → Event → Type 0
-EventGives number bit token event = event ≡ eventOf number bit token
+EventGives number bit token event = event ≡ event_of number bit token

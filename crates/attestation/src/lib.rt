@@ -1,7 +1,7 @@
 // What the drivers of an attestation report, and the messages between them and the peer: the handled events 4, 6, 7, 9, 15 and 16. What
 // a function doesn't set stays as it is.
 ghost use Rattle.std.specs.Prelude.{◌≡◌, cond};
-ghost use Rattle.effects.specs.ByEvent.{byEvent};
+ghost use Rattle.effects.specs.ByEvent.{by_event};
 
 use effects::{NO_ACTIONS, pick};
 use event::Input;
@@ -11,7 +11,7 @@ use table::states;
 
 // RA_VERIFIER_OK: the peer is attested until RA runs out.
 pub fn verifier_ok(connection: Connection, input: Input, to: u32, number: u32) -> Outcome
-    ensures { result ≡ byEvent number connection 4 input to }
+    ensures { result ≡ by_event number connection 4 input to }
 {
     let waits = to == states::WAIT_FOR_ACK;
     let mut after = connection;
@@ -33,7 +33,7 @@ pub fn verifier_ok(connection: Connection, input: Input, to: u32, number: u32) -
 
 // RA_PROVER_OK: we are attested to the peer.
 pub fn prover_ok(connection: Connection, input: Input, to: u32, number: u32) -> Outcome
-    ensures { result ≡ byEvent number connection 7 input to }
+    ensures { result ≡ by_event number connection 7 input to }
 {
     let waits = to == states::WAIT_FOR_ACK;
     let mut after = connection;
@@ -59,7 +59,7 @@ pub fn send_report(
     to: u32,
     number: u32,
 ) -> Outcome
-    ensures { result ≡ byEvent number connection (cond of_verifier 6 9) input to }
+    ensures { result ≡ by_event number connection (cond of_verifier 6 9) input to }
 {
     let mut after = connection;
     after.state = to;
@@ -83,7 +83,7 @@ pub fn pass_on(
     to: u32,
     number: u32,
 ) -> Outcome
-    ensures { result ≡ byEvent number connection (cond to_verifier 15 16) input to }
+    ensures { result ≡ by_event number connection (cond to_verifier 15 16) input to }
 {
     let mut after = connection;
     after.state = to;

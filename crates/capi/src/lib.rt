@@ -9,7 +9,7 @@ ghost use Rattle.event.specs.Call.{call_of};
 ghost use Rattle.interface.specs.Choice.{chosen_of};
 ghost use Rattle.messages.specs.Promised.{ReadGives};
 ghost use Rattle.suites.specs.Choice.{choice};
-ghost use Rattle.token.specs.Answer.{timeLeft};
+ghost use Rattle.token.specs.Answer.{time_left};
 
 use arrival::{Token, event_of};
 use connection::{Event, fresh, step_flat};
@@ -35,8 +35,8 @@ pub extern "C" fn menhotrac_seconds_left(
     margin: u32,
     seconds: &mut i64,
 ) -> u32
-    ensures value { result ≡ (timeLeft expiry at margin).refusal }
-    ensures seconds_after { seconds.new ≡ (timeLeft expiry at margin).seconds }
+    ensures value { result ≡ (time_left expiry at margin).refusal }
+    ensures seconds_after { seconds.new ≡ (time_left expiry at margin).seconds }
 {
     let left = seconds_left(expiry, at, margin);
     *seconds = time::seconds_in(left);

@@ -17,13 +17,13 @@ use Rattle.flat.proofs.Written.{as_written}
 use Rattle.record.specs.Limits.{limits}
 use Rattle.record.specs.declared.Connection.{Connection}
 use Rattle.protocol.specs.Block.{stored}
-use Rattle.protocol.specs.Input.{carriesPayload, input_of}
-use Rattle.protocol.specs.Step.{Result, decided, step_of, cacheAfter, result_of}
+use Rattle.protocol.specs.Input.{carries_payload, input_of}
+use Rattle.protocol.specs.Step.{Result, decided, step_of, cache_after, result_of}
 use Rattle.protocol.specs.declared.Answer.{Answer}
 use Rattle.protocol.specs.declared.Answer.TheVariants.{Handled, Ignored, Refused}
 use Rattle.protocol.specs.declared.Outcome.{Outcome}
 use Rattle.protocol.specs.contracts.Answer.{the_type}
-use Rattle.protocol.proofs.Stepped.{Stepped, refused, ignored, handled, stepped, handled-unrefused}
+use Rattle.protocol.proofs.Stepped.{Stepped, refused, ignored, handled, stepped, handled_unrefused}
 
 module _ (before : Connection) (call : Call) (cache : List ℕ) where
   abbrev outcome : Outcome
@@ -32,15 +32,15 @@ module _ (before : Connection) (call : Call) (cache : List ℕ) where
   -- An event that is not handled leaves the record as it was.
   lent_is : lent before outcome ≡ outcome
   unfolding result_of
-  lent_is = by-stepped (stepped limits before call cache)
+  lent_is = by_stepped (stepped limits before call cache)
     where
       alike : (r : Result) → result_of limits before call cache ≡ r → lent before r.outcome ≡ r.outcome → lent before outcome ≡ outcome
       alike r e p = ap (λ (x : Result). lent before x.outcome) e ∙ p ∙ sym (ap (λ (x : Result). x.outcome) e)
 
-      by-stepped : Stepped limits before call cache → lent before outcome ≡ outcome
-      by-stepped (refused n e) = alike _ e refl
-      by-stepped (ignored n i e) = alike _ e refl
-      by-stepped (handled n i e) = alike _ e refl
+      by_stepped : Stepped limits before call cache → lent before outcome ≡ outcome
+      by_stepped (refused n e) = alike _ e refl
+      by_stepped (ignored n i e) = alike _ e refl
+      by_stepped (handled n i e) = alike _ e refl
 
   module _ {answer : Answer} {numbers slots : List ℕ} where
     -- What was decided for the record before and the input of a call is the step's outcome.
@@ -52,23 +52,23 @@ module _ (before : Connection) (call : Call) (cache : List ℕ) where
       -- The payload of a handled event 2 fits in the cache.
       pub room : answer ≡ Handled → call.event.code ≡ 2 → length call.payload ≤ length cache
       room e two =
-          let f = (handled-unrefused limits before call cache (sym w.answered ∙ e)).arguments in
-          let p = f.payload (subst⁻¹ (λ (k : ℕ). T (carriesPayload k)) two tt) in
+          let f = (handled_unrefused limits before call cache (sym w.answered ∙ e)).arguments in
+          let p = f.payload (subst⁻¹ (λ (k : ℕ). T (carries_payload k)) two tt) in
           let q = f.cache in
           omega arith
 
       abbrev Gives : (after : List ℕ) → Type 0
       Gives = WrittenResult (result_of limits before call cache) answer numbers slots
 
-      promised : (after : List ℕ) → after ≡ cacheAfter answer call cache → Gives after
+      promised : (after : List ℕ) → after ≡ cache_after answer call cache → Gives after
       unfolding result_of
-      promised after c = record { outcome-is = w; cache-is = c ∙ ap (λ (x : Answer). cacheAfter x call cache) w.answered }
+      promised after c = record { outcome_is = w; cache_is = c ∙ ap (λ (x : Answer). cache_after x call cache) w.answered }
 
       -- A call that is not handled, a handled event 2, and another handled event.
       pub kept : OneOf (1 ∷ 2 ∷ []) (tag_of the_type answer) → Gives cache
       kept o = promised cache (by_answer answer o)
         where
-          by_answer : (x : Answer) → OneOf (1 ∷ 2 ∷ []) (tag_of the_type x) → cache ≡ cacheAfter x call cache
+          by_answer : (x : Answer) → OneOf (1 ∷ 2 ∷ []) (tag_of the_type x) → cache ≡ cache_after x call cache
           by_answer Handled o = absurd (miss (1 ∷ 2 ∷ []) 0 tt o)
           by_answer Ignored o = refl
           by_answer (Refused n) o = refl

@@ -8,7 +8,7 @@ ghost use Rattle.event.specs.Call.{call_of};
 ghost use Rattle.protocol.specs.Block.{stored};
 ghost use Rattle.protocol.specs.Promised.{StepGives};
 ghost use Rattle.protocol.specs.Step.{result_of};
-ghost use Rattle.flat.specs.Flat.{recordIn};
+ghost use Rattle.flat.specs.Flat.{record_in};
 ghost use Rattle.flat.specs.Written.{WrittenResult};
 
 use decision::decide;
@@ -70,7 +70,7 @@ pub fn step_flat(
     slots: &mut [u32; 16],
 ) -> Answer
     ensures { WrittenResult
-        (result_of limits (recordIn numbers.old)
+        (result_of limits (record_in numbers.old)
         (call_of event payload.now our_verifiers.now peer_provers.now
         peer_verifiers.now our_provers.now)
         cache.old)

@@ -5,15 +5,15 @@ use Rattle.protocol.specs.declared.Answer.TheVariants.{Handled, Ignored, Refused
 use Rattle.protocol.specs.declared.Outcome.{Outcome}
 
 -- The record that is lent, after an answer: only a handled event writes it.
-abbrev pub recordAfter : Answer → (after before : Connection) → Connection
-recordAfter Handled after before = after
-recordAfter Ignored after before = before
-recordAfter (Refused number) after before = before
+abbrev pub record_after : Answer → (after before : Connection) → Connection
+record_after Handled after before = after
+record_after Ignored after before = before
+record_after (Refused number) after before = before
 
 -- The outcome with the lent record as it is then.
 abbrev pub lent : (before : Connection) → Outcome → Outcome
 lent before outcome = record {
   answer = outcome.answer;
-  connection = recordAfter outcome.answer outcome.connection before;
+  connection = record_after outcome.answer outcome.connection before;
   actions = outcome.actions;
 }

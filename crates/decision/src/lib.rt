@@ -1,10 +1,10 @@
 // What becomes of an event: refused, ignored or handled.
 ghost use Rattle.std.specs.Prelude.{◌≡◌, cond, eqb};
 ghost use Rattle.decision.specs.Lent.{lent};
-ghost use Rattle.flat.specs.Flat.{recordIn, slots_of};
+ghost use Rattle.flat.specs.Flat.{record_in, slots_of};
 ghost use Rattle.flat.specs.Written.{Written};
 ghost use Rattle.record.specs.Limits.{limits};
-ghost use Rattle.protocol.specs.Actions.{noActions};
+ghost use Rattle.protocol.specs.Actions.{no_actions};
 ghost use Rattle.protocol.specs.Step.{decided};
 ghost use Rattle.protocol.specs.declared.Answer.TheVariants.{Ignored, Refused};
 
@@ -28,7 +28,7 @@ pub fn decide(
     code: u32,
     input: Input,
 ) -> Answer
-    ensures { Written (lent (recordIn numbers.old) (decided limits connection code input)) result numbers.new slots.new }
+    ensures { Written (lent (record_in numbers.old) (decided limits connection code input)) result numbers.new slots.new }
 {
     let fault = lowest_fault(connection, code, input);
     if fault != refusals::NONE {
@@ -57,7 +57,7 @@ pub fn decide(
 // Refused or, without a refusal, ignored: no actions, and the record is not written.
 fn unmoved(slots: &mut [u32; 16], refusal: u32) -> Answer
     ensures value { result ≡ cond (eqb refusal 0) Ignored (Refused refusal) }
-    ensures slots_after { slots.new ≡ slots_of noActions }
+    ensures slots_after { slots.new ≡ slots_of no_actions }
 {
     *slots = slots_of(NO_ACTIONS);
     if refusal != refusals::NONE {

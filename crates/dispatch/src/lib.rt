@@ -1,5 +1,5 @@
 // Gives a handled event that doesn't lock to its function, by its code.
-ghost use Rattle.effects.specs.ByEvent.{byEvent, movingCode};
+ghost use Rattle.effects.specs.ByEvent.{by_event, moving_code};
 ghost use Rattle.flat.specs.Written.{Written};
 
 use attestation::{pass_on, prover_ok, send_report, verifier_ok};
@@ -26,7 +26,7 @@ pub fn move_on(
     to: u32,
     number: u32,
 ) -> Answer
-    ensures { Written (byEvent number before (movingCode code) input to) result numbers.new slots.new }
+    ensures { Written (by_event number before (moving_code code) input to) result numbers.new slots.new }
 {
     match code {
         UPPER_START_HANDSHAKE => put(numbers, slots, start_handshake(before, input, to, number)),

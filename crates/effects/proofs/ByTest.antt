@@ -4,18 +4,18 @@ use mathlib.Core.Path.{◌≡◌, refl}
 use mathlib.Core.Logic.{◌⊎◌, inl, inr}
 use mathlib.Core.Bool.{Bool, true, false, cond}
 use Prim.Native.Nat.{ℕ}
-use Rattle.effects.specs.ByEvent.{Effect, tagBy, order_by}
+use Rattle.effects.specs.ByEvent.{Effect, tag_by, order_by}
 
 -- A test holds or fails.
-pub true-or-false : (b : Bool) → (b ≡ true) ⊎ (b ≡ false)
-true-or-false true = inl refl
-true-or-false false = inr refl
+pub true_or_false : (b : Bool) → (b ≡ true) ⊎ (b ≡ false)
+true_or_false true = inl refl
+true_or_false false = inr refl
 
 -- An effect that goes by a test.
-pub tag-if : (b : Bool) (e f : Effect) (number tag : ℕ) → tagBy (cond b e f) number tag ≡ cond b (tagBy e number tag) (tagBy f number tag)
-tag-if true e f number tag = refl
-tag-if false e f number tag = refl
+pub tag_if : (b : Bool) (e f : Effect) (number tag : ℕ) → tag_by (cond b e f) number tag ≡ cond b (tag_by e number tag) (tag_by f number tag)
+tag_if true e f number tag = refl
+tag_if false e f number tag = refl
 
-pub order-if : (b : Bool) (e f : Effect) (tag : ℕ) → order_by (cond b e f) tag ≡ cond b (order_by e tag) (order_by f tag)
-order-if true e f tag = refl
-order-if false e f tag = refl
+pub order_if : (b : Bool) (e f : Effect) (tag : ℕ) → order_by (cond b e f) tag ≡ cond b (order_by e tag) (order_by f tag)
+order_if true e f tag = refl
+order_if false e f tag = refl

@@ -3,11 +3,11 @@
 use Rattle.std.specs.Prelude.{ℕ, true, false, cond, List, [], ◌∷◌, eqb, get_or}
 use Rattle.protocol.specs.Orders as order
 use Rattle.record.specs.Tags.{tag_of}
-use Rattle.table.specs.Sets.{isIn}
+use Rattle.table.specs.Sets.{is_in}
 use Rattle.record.specs.Timer.{Timer, H, HP, HV, DAT, Ra, ACK}
-use Rattle.protocol.specs.Timers.{timerOrder}
+use Rattle.protocol.specs.Timers.{timer_order}
 use Rattle.protocol.specs.Advance.{locked, moved}
-use Rattle.protocol.specs.Actions.{lockingActions, movingActions, ordersOf}
+use Rattle.protocol.specs.Actions.{locking_actions, moving_actions, orders_of}
 use Rattle.protocol.specs.declared.Answer.TheVariants.{Handled}
 use Rattle.record.specs.declared.Connection.{Connection}
 use Rattle.protocol.specs.declared.Outcome.{Outcome}
@@ -30,15 +30,15 @@ six h hp hv dat ra ack ACK = ack
 abbrev pub effects : (to : ℕ) → List (Timer → Effect)
 effects to =
     let nothing = six keep keep keep keep keep keep in
-    let ifWaiting = cond (eqb to 8) start keep in
+    let if_waiting = cond (eqb to 8) start keep in
     six start keep keep keep keep keep  -- 0
     ∷ nothing  -- 1
     ∷ six keep keep keep keep keep start  -- 2
     ∷ six keep keep start keep cancel clear  -- 3
-    ∷ six keep keep cancel keep start ifWaiting  -- 4
+    ∷ six keep keep cancel keep start if_waiting  -- 4
     ∷ nothing  -- 5
     ∷ nothing  -- 6
-    ∷ six keep cancel keep keep keep ifWaiting  -- 7
+    ∷ six keep cancel keep keep keep if_waiting  -- 7
     ∷ nothing  -- 8
     ∷ nothing  -- 9
     ∷ nothing  -- 10
@@ -62,12 +62,12 @@ abbrev pub effect_of : (code to : ℕ) → Timer → Effect
 effect_of code to = get_or (effects to) code (six keep keep keep keep keep keep)
 
 -- The tag that an effect leaves.
-abbrev pub tagBy : Effect → (number tag : ℕ) → ℕ
-tagBy keep number tag = tag
-tagBy start number tag = number
-tagBy cancel number tag = 0
-tagBy expire number tag = 0
-tagBy clear number tag = 0
+abbrev pub tag_by : Effect → (number tag : ℕ) → ℕ
+tag_by keep number tag = tag
+tag_by start number tag = number
+tag_by cancel number tag = 0
+tag_by expire number tag = 0
+tag_by clear number tag = 0
 
 -- The order that it gives.
 abbrev pub order_by : Effect → (tag : ℕ) → ℕ
@@ -75,24 +75,24 @@ order_by keep tag = order.none
 order_by start tag = order.start
 order_by cancel tag = order.cancel
 order_by expire tag = order.none
-order_by clear tag = timerOrder false true false tag
+order_by clear tag = timer_order false true false tag
 
 -- A handled event that doesn't lock.
-abbrev pub byEvent : (number : ℕ) → Connection → (code : ℕ) → Input → (to : ℕ) → Outcome
-byEvent number connection code input to =
+abbrev pub by_event : (number : ℕ) → Connection → (code : ℕ) → Input → (to : ℕ) → Outcome
+by_event number connection code input to =
     let effect = effect_of code to in
     record {
       answer = Handled;
-      connection = moved (λ timer. tagBy (effect timer) number (tag_of connection timer)) number connection code input to;
-      actions = movingActions (λ timer. order_by (effect timer) (tag_of connection timer)) connection code input;
+      connection = moved (λ timer. tag_by (effect timer) number (tag_of connection timer)) number connection code input to;
+      actions = moving_actions (λ timer. order_by (effect timer) (tag_of connection timer)) connection code input;
     }
 
 -- A handled event that locks.
-abbrev pub byLocking : (number : ℕ) → Connection → (code : ℕ) → Input → Outcome
-byLocking number connection code input = record {
+abbrev pub by_locking : (number : ℕ) → Connection → (code : ℕ) → Input → Outcome
+by_locking number connection code input = record {
   answer = Handled;
   connection = locked number;
-  actions = lockingActions (ordersOf connection code input 9) connection code;
+  actions = locking_actions (orders_of connection code input 9) connection code;
 }
 
 -- The events that are handled without a lock in some state.
@@ -100,5 +100,5 @@ abbrev pub moving : List ℕ
 moving = 0 ∷ 2 ∷ 3 ∷ 4 ∷ 6 ∷ 7 ∷ 9 ∷ 11 ∷ 13 ∷ 14 ∷ 15 ∷ 16 ∷ 17 ∷ 18 ∷ 19 ∷ 21 ∷ 22 ∷ 23 ∷ []
 
 -- The code of an event that moves on; any other code counts as 23.
-abbrev pub movingCode : (code : ℕ) → ℕ
-movingCode code = cond (isIn moving code) code 23
+abbrev pub moving_code : (code : ℕ) → ℕ
+moving_code code = cond (is_in moving code) code 23

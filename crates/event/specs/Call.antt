@@ -6,18 +6,18 @@ use Rattle.event.specs.declared.Event.{Event}
 pub record Call : Type 0 where
   pub event : Event
   pub payload : List ℕ
-  pub ourVerifiers : List ℕ
-  pub peerProvers : List ℕ
-  pub peerVerifiers : List ℕ
-  pub ourProvers : List ℕ
+  pub our_verifiers : List ℕ
+  pub peer_provers : List ℕ
+  pub peer_verifiers : List ℕ
+  pub our_provers : List ℕ
 
 -- A call, by the arguments of `step`.
-abbrev pub call_of : Event → (payload ourVerifiers peerProvers peerVerifiers ourProvers : List ℕ) → Call
-call_of event payload ourVerifiers peerProvers peerVerifiers ourProvers = record {
+abbrev pub call_of : Event → (payload our_verifiers peer_provers peer_verifiers our_provers : List ℕ) → Call
+call_of event payload our_verifiers peer_provers peer_verifiers our_provers = record {
   event = event;
   payload = payload;
-  ourVerifiers = ourVerifiers;
-  peerProvers = peerProvers;
-  peerVerifiers = peerVerifiers;
-  ourProvers = ourProvers;
+  our_verifiers = our_verifiers;
+  peer_provers = peer_provers;
+  peer_verifiers = peer_verifiers;
+  our_provers = our_provers;
 }

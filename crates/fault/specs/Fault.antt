@@ -28,8 +28,8 @@ leftmost [] = none
 leftmost (f ∷ fs) = first_of f (leftmost fs)
 
 -- A fault where a test holds.
-abbrev pub faultIf : Bool → Fault → List Fault
-faultIf holds f = cond holds (f ∷ []) []
+abbrev pub fault_if : Bool → Fault → List Fault
+fault_if holds f = cond holds (f ∷ []) []
 
 -- The faults of a key; if it shows none, those of what it announces.
 abbrev pub or_else : List Fault → List Fault → List Fault
@@ -38,17 +38,17 @@ or_else (f ∷ fs) others = f ∷ fs
 
 -- What reading gives: what was read, or a refusal's number and nothing else.
 pub data Reading (A : Type 0) : Type 0 where
-  readAs : A → Reading A
+  read_as : A → Reading A
   refused : (number : ℕ) → Reading A
 
 -- The reading where this fault, if any, is the first.
-abbrev pub byFirst : {A : Type 0} → Option Fault → A → Reading A
-byFirst none read = readAs read
-byFirst (some f) read = refused f.number
+abbrev pub by_first_fault : {A : Type 0} → Option Fault → A → Reading A
+by_first_fault none read = read_as read
+by_first_fault (some f) read = refused f.number
 
 -- Bytes are refused by their first fault from the left, and read if they show none.
 abbrev pub judged : {A : Type 0} → List Fault → A → Reading A
-judged faults read = byFirst (leftmost faults) read
+judged faults read = by_first_fault (leftmost faults) read
 
 -- A fault is one of the list, and none comes before it.
 pub record FirstIn (faults : List Fault) (f : Fault) : Type 0 where

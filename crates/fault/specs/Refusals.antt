@@ -4,9 +4,9 @@ use Rattle.fault.specs.declared.Refusal.{Refusal}
 use Rattle.fault.specs.declared.Refusal.TheVariants.{EndsTooSoon, UnexpectedField, WrongWireType, NumberTooLarge, TooManySuites}
 
 -- The number of a refusal.
-abbrev pub refusalNumber : Refusal → ℕ
-refusalNumber EndsTooSoon = 21
-refusalNumber UnexpectedField = 22
-refusalNumber WrongWireType = 23
-refusalNumber NumberTooLarge = 24
-refusalNumber TooManySuites = 25
+abbrev pub refusal_number : Refusal → ℕ
+refusal_number EndsTooSoon = 21
+refusal_number UnexpectedField = 22
+refusal_number WrongWireType = 23
+refusal_number NumberTooLarge = 24
+refusal_number TooManySuites = 25

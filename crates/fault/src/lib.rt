@@ -1,6 +1,6 @@
 // Why bytes are refused.
 ghost use Rattle.std.specs.Prelude.{◌≡◌};
-ghost use Rattle.fault.specs.Refusals.{refusalNumber};
+ghost use Rattle.fault.specs.Refusals.{refusal_number};
 
 pub mod refusals;
 
@@ -16,7 +16,7 @@ pub enum Refusal {
 
 // The number of a refusal.
 pub fn refusal_number(refusal: Refusal) -> u32
-    ensures { result ≡ refusalNumber refusal }
+    ensures { result ≡ refusal_number refusal }
 {
     match refusal {
         Refusal::EndsTooSoon => refusals::ENDS_TOO_SOON,

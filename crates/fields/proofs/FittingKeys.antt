@@ -6,14 +6,14 @@ use native.Mathlib.Decide.{ℕ_discrete}
 use native.Mathlib.Omega.{arith}
 use lib.Dec.{eqb}
 use borrow.Author.Tests.{eq-eqb, ne_eqb, eqb-true}
-use Rattle.wire.specs.Layout.{fieldNumber, wireType}
-use Rattle.fault.proofs.Order.{absurd-bool}
-use Rattle.fields.specs.Schema.{Form, Unknown, Bytes, Provers, Verifiers, Bit, formIn, isUnknown, wrongType}
-use Rattle.fields.specs.Fields.{Marks, isRead, isUnexpected}
-use Rattle.fields.specs.Steps.{helloMarks, plainMarks}
+use Rattle.wire.specs.Layout.{field_number, wire_type}
+use Rattle.fault.proofs.Order.{absurd_bool}
+use Rattle.fields.specs.Schema.{Form, Unknown, Bytes, Provers, Verifiers, Bit, form_in, is_unknown, wrong_type}
+use Rattle.fields.specs.Fields.{Marks, is_read, is_unexpected}
+use Rattle.fields.specs.Steps.{hello_marks, plain_marks}
 use Rattle.fields.specs.declared.hello.Marks as hello-marks
-use Rattle.fields.proofs.FieldSteps.{or_left, is-it}
-use Rattle.fields.proofs.Forms.{known-number, no-message}
+use Rattle.fields.proofs.FieldSteps.{or_left, is_it}
+use Rattle.fields.proofs.Forms.{known_number, no_message}
 use Rattle.fields.proofs.OneField.{Refuses}
 
 -- The key of a field of a form.
@@ -24,33 +24,33 @@ key_of Provers number = 8 * number + 2
 key_of Verifiers number = 8 * number + 2
 key_of Bit number = 8 * number
 
-right_key : (form : Form) (key : ℕ) → isUnknown form ≡ false → wrongType form (wireType key) ≡ false → key ≡ key_of form (fieldNumber key)
-right_key Unknown key u w = absurd-bool u
-right_key Bytes key u w = let e = is-it (key % 8) 2 w in omega (arith, e)
-right_key Provers key u w = let e = is-it (key % 8) 2 w in omega (arith, e)
-right_key Verifiers key u w = let e = is-it (key % 8) 2 w in omega (arith, e)
-right_key Bit key u w = let e = is-it (key % 8) 0 w in omega (arith, e)
+right_key : (form : Form) (key : ℕ) → is_unknown form ≡ false → wrong_type form (wire_type key) ≡ false → key ≡ key_of form (field_number key)
+right_key Unknown key u w = absurd_bool u
+right_key Bytes key u w = let e = is_it (key % 8) 2 w in omega (arith, e)
+right_key Provers key u w = let e = is_it (key % 8) 2 w in omega (arith, e)
+right_key Verifiers key u w = let e = is_it (key % 8) 2 w in omega (arith, e)
+right_key Bit key u w = let e = is_it (key % 8) 0 w in omega (arith, e)
 
 -- A field that is known, of its wire type and not read yet has one of three numbers, and its key.
 pub record Fitting (message key : ℕ) (read : Marks) (number : ℕ) : Type 0 where
-  pub expected : isUnexpected message number read ≡ false
-  pub key-is : key ≡ key_of (formIn message number) number
+  pub expected : is_unexpected message number read ≡ false
+  pub key_is : key ≡ key_of (form_in message number) number
 
 module _ (message key : ℕ) (read : Marks) where
   abbrev form : Form
-  form = formIn message (fieldNumber key)
+  form = form_in message (field_number key)
 
-  pub by_number : {X : Type 0} → (isUnknown form || isRead form read) ≡ false → wrongType form (wireType key) ≡ false →
+  pub by_number : {X : Type 0} → (is_unknown form || is_read form read) ≡ false → wrong_type form (wire_type key) ≡ false →
       (Fitting message key read 1 → X) → (Fitting message key read 2 → X) → (Fitting message key read 3 → X) → X
-  by_number {X = X} u w one two three = pick (fieldNumber key) refl (known-number message (fieldNumber key) (or_left (isUnknown form) (isRead form read) u))
+  by_number {X = X} u w one two three = pick (field_number key) refl (known_number message (field_number key) (or_left (is_unknown form) (is_read form read) u))
     where
-      fitting : (n : ℕ) → fieldNumber key ≡ n → Fitting message key read n
+      fitting : (n : ℕ) → field_number key ≡ n → Fitting message key read n
       fitting n e = subst (Fitting message key read) e record {
         expected = u;
-        key-is = right_key form key (or_left (isUnknown form) (isRead form read) u) w;
+        key_is = right_key form key (or_left (is_unknown form) (is_read form read) u) w;
       }
 
-      pick : (n : ℕ) → fieldNumber key ≡ n → (1 ≤ n) × (n ≤ 3) → X
+      pick : (n : ℕ) → field_number key ≡ n → (1 ≤ n) × (n ≤ 3) → X
       pick zero e b = absurd (omega (arith, b.0))
       pick (suc zero) e b = one (fitting 1 e)
       pick (suc (suc zero)) e b = two (fitting 2 e)
@@ -59,26 +59,26 @@ module _ (message key : ℕ) (read : Marks) where
 
 -- A test for a key is met where its field is expected.
 met : (key k : ℕ) (unexpected : Bool) → key ≡ k → unexpected ≡ false → (eqb key k && not unexpected) ≡ false → ⊥
-met key k unexpected e u t = absurd-bool (sym (rw (eq-eqb key k e, u)) ∙ t)
+met key k unexpected e u t = absurd_bool (sym (rw (eq-eqb key k e, u)) ∙ t)
 
 -- A test that is met.
-pub is-met : (key k : ℕ) (read : Bool) → (eqb key k && not read) ≡ true → (key ≡ k) × (read ≡ false)
-is-met key k read e = by_tests (eqb key k) read refl e
+pub is_met : (key k : ℕ) (read : Bool) → (eqb key k && not read) ≡ true → (key ≡ k) × (read ≡ false)
+is_met key k read e = by_tests (eqb key k) read refl e
   where
     by_tests : (s t : Bool) → eqb key k ≡ s → (s && not t) ≡ true → (key ≡ k) × (t ≡ false)
     by_tests true false p e = (eqb-true key k p, refl)
-    by_tests true true p e = absurd-bool (sym e)
-    by_tests false t p e = absurd-bool (sym e)
+    by_tests true true p e = absurd_bool (sym e)
+    by_tests false t p e = absurd_bool (sym e)
 
 -- The same of a test for some messages alone.
-pub is-met-in : (in-message : Bool) (key k : ℕ) (read : Bool) → ((in-message && eqb key k) && not read) ≡ true → (in-message ≡ true) × ((key ≡ k) × (read ≡ false))
-is-met-in true key k read e = (refl, is-met key k read e)
-is-met-in false key k read e = absurd-bool (sym e)
+pub is_met_in : (in-message : Bool) (key k : ℕ) (read : Bool) → ((in-message && eqb key k) && not read) ≡ true → (in-message ≡ true) × ((key ≡ k) × (read ≡ false))
+is_met_in true key k read e = (refl, is_met key k read e)
+is_met_in false key k read e = absurd_bool (sym e)
 
 -- A message has no field 0 and none above 3.
 pub record Rows (message : ℕ) : Type 0 where
-  pub none_below : formIn message 0 ≡ Unknown
-  pub none_above : (k : ℕ) → formIn message (suc (suc (suc (suc k)))) ≡ Unknown
+  pub none_below : form_in message 0 ≡ Unknown
+  pub none_above : (k : ℕ) → form_in message (suc (suc (suc (suc k)))) ≡ Unknown
 
 above : (k n : ℕ) → n < k → eqb k n ≡ false
 above k n h = ne_eqb k n (λ e. omega (arith, e))
@@ -87,28 +87,28 @@ above k n h = ne_eqb k n (λ e. omega (arith, e))
 module _ (message key : ℕ) (read : Marks) (rows : Rows message) where
   -- The test for a field by its key, and that by its number.
   abbrev fits : ℕ → Bool
-  fits number = eqb key (key_of (formIn message number) number) && not (isUnexpected message number read)
+  fits number = eqb key (key_of (form_in message number) number) && not (is_unexpected message number read)
 
   abbrev names : (k number : ℕ) → Bool
-  names k number = eqb k number && not (isUnexpected message number read)
+  names k number = eqb k number && not (is_unexpected message number read)
 
-  expects : (k : ℕ) → ((names k 1 || names k 2) || names k 3) ≡ not (isUnexpected message k read)
+  expects : (k : ℕ) → ((names k 1 || names k 2) || names k 3) ≡ not (is_unexpected message k read)
   expects zero = rw rows.none_below
-  expects (suc zero) = or-false (not (isUnexpected message 1 read) || false) ∙ or-false (not (isUnexpected message 1 read))
-  expects (suc (suc zero)) = or-false (not (isUnexpected message 2 read))
+  expects (suc zero) = or-false (not (is_unexpected message 1 read) || false) ∙ or-false (not (is_unexpected message 1 read))
+  expects (suc (suc zero)) = or-false (not (is_unexpected message 2 read))
   expects (suc (suc (suc zero))) = refl
   expects (suc (suc (suc (suc k)))) =
       let n : ℕ = suc (suc (suc (suc k))) in
       rw (rows.none_above k, above n 1 (omega arith), above n 2 (omega arith), above n 3 (omega arith))
 
   refuses : fits 1 ≡ false → fits 2 ≡ false → fits 3 ≡ false →
-      Refuses message key read ((names (fieldNumber key) 1 || names (fieldNumber key) 2) || names (fieldNumber key) 3)
+      Refuses message key read ((names (field_number key) 1 || names (field_number key) 2) || names (field_number key) 3)
   refuses a b c = record {
-    says = expects (fieldNumber key);
+    says = expects (field_number key);
     mistyped = λ u w. by_number message key read u w
-        (λ f. met key _ _ f.key-is f.expected a)
-        (λ f. met key _ _ f.key-is f.expected b)
-        (λ f. met key _ _ f.key-is f.expected c);
+        (λ f. met key _ _ f.key_is f.expected a)
+        (λ f. met key _ _ f.key_is f.expected b)
+        (λ f. met key _ _ f.key_is f.expected c);
   }
 
 -- A field that the message does not have is not tested for.
@@ -116,85 +116,85 @@ untested : (message key : ℕ) (read : Marks) (e f : Bool) → Refuses message k
 untested message key read e f r = subst (Refuses message key read) (ap (λ (b : Bool). e || b) (and-false f) ∙ or-false e) r
 
 -- A message without fields.
-none-refuses : (message key : ℕ) (read : Marks) → ((k : ℕ) → formIn message k ≡ Unknown) → Refuses message key read false
-none-refuses message key read none = record {
-  says = rw (none (fieldNumber key));
-  mistyped = λ u w. absurd-bool (sym (ap isUnknown (none (fieldNumber key))) ∙ or_left _ _ u);
+none_refuses : (message key : ℕ) (read : Marks) → ((k : ℕ) → form_in message k ≡ Unknown) → Refuses message key read false
+none_refuses message key read none = record {
+  says = rw (none (field_number key));
+  mistyped = λ u w. absurd_bool (sym (ap is_unknown (none (field_number key))) ∙ or_left _ _ u);
 }
 
 module _ (key : ℕ) where
-  pub hello-refuses : (read : hello-marks.Marks) →
+  pub hello_refuses : (read : hello-marks.Marks) →
       (eqb key 10 && not read.token) ≡ false → (eqb key 18 && not read.provers) ≡ false → (eqb key 26 && not read.verifiers) ≡ false →
-      Refuses 1 key (helloMarks read)
-      (((eqb (fieldNumber key) 1 && not read.token) || (eqb (fieldNumber key) 2 && not read.provers)) || (eqb (fieldNumber key) 3 && not read.verifiers))
-  unfolding formIn
-  hello-refuses read a b c = refuses 1 key (helloMarks read) record { none_below = refl; none_above = λ k. refl } a b c
+      Refuses 1 key (hello_marks read)
+      (((eqb (field_number key) 1 && not read.token) || (eqb (field_number key) 2 && not read.provers)) || (eqb (field_number key) 3 && not read.verifiers))
+  unfolding form_in
+  hello_refuses read a b c = refuses 1 key (hello_marks read) record { none_below = refl; none_above = λ k. refl } a b c
 
-  pub data-refuses : (b t : Bool) → (eqb key 10 && not b) ≡ false → (eqb key 16 && not t) ≡ false →
-      Refuses 8 key (plainMarks b t) ((eqb (fieldNumber key) 1 && not b) || (eqb (fieldNumber key) 2 && not t))
-  unfolding formIn
-  data-refuses b t p q =
-      untested 8 key (plainMarks b t) _ (eqb (fieldNumber key) 3)
-      (refuses 8 key (plainMarks b t) record { none_below = refl; none_above = λ k. refl } p q (and-false (eqb key 24)))
+  pub data_refuses : (b t : Bool) → (eqb key 10 && not b) ≡ false → (eqb key 16 && not t) ≡ false →
+      Refuses 8 key (plain_marks b t) ((eqb (field_number key) 1 && not b) || (eqb (field_number key) 2 && not t))
+  unfolding form_in
+  data_refuses b t p q =
+      untested 8 key (plain_marks b t) _ (eqb (field_number key) 3)
+      (refuses 8 key (plain_marks b t) record { none_below = refl; none_above = λ k. refl } p q (and-false (eqb key 24)))
 
 -- A message with field 1 alone.
-module _ (key message : ℕ) (read : Marks) (rows : Rows message) (two : formIn message 2 ≡ Unknown) (three : formIn message 3 ≡ Unknown) where
-  never : (b : Bool) (number : ℕ) → formIn message number ≡ Unknown → (b && not (isUnexpected message number read)) ≡ (b && false)
-  never b number e = ap (λ (f : Form). b && not (isUnknown f || isRead f read)) e
+module _ (key message : ℕ) (read : Marks) (rows : Rows message) (two : form_in message 2 ≡ Unknown) (three : form_in message 3 ≡ Unknown) where
+  never : (b : Bool) (number : ℕ) → form_in message number ≡ Unknown → (b && not (is_unexpected message number read)) ≡ (b && false)
+  never b number e = ap (λ (f : Form). b && not (is_unknown f || is_read f read)) e
 
-  misses : (number : ℕ) → formIn message number ≡ Unknown → fits message key read rows number ≡ false
-  misses number e = let b : Bool = eqb key (key_of (formIn message number) number) in never b number e ∙ and-false b
+  misses : (number : ℕ) → form_in message number ≡ Unknown → fits message key read rows number ≡ false
+  misses number e = let b : Bool = eqb key (key_of (form_in message number) number) in never b number e ∙ and-false b
 
-  only : (eqb key (key_of (formIn message 1) 1) && not (isUnexpected message 1 read)) ≡ false →
-      Refuses message key read (eqb (fieldNumber key) 1 && not (isUnexpected message 1 read))
+  only : (eqb key (key_of (form_in message 1) 1) && not (is_unexpected message 1 read)) ≡ false →
+      Refuses message key read (eqb (field_number key) 1 && not (is_unexpected message 1 read))
   only p =
-      let first : Bool = eqb (fieldNumber key) 1 && not (isUnexpected message 1 read) in
-      untested message key read first (eqb (fieldNumber key) 2)
-      (untested message key read (first || (eqb (fieldNumber key) 2 && false)) (eqb (fieldNumber key) 3)
-      (subst (Refuses message key read) (λ i. (first || never (eqb (fieldNumber key) 2) 2 two i) || never (eqb (fieldNumber key) 3) 3 three i)
+      let first : Bool = eqb (field_number key) 1 && not (is_unexpected message 1 read) in
+      untested message key read first (eqb (field_number key) 2)
+      (untested message key read (first || (eqb (field_number key) 2 && false)) (eqb (field_number key) 3)
+      (subst (Refuses message key read) (λ i. (first || never (eqb (field_number key) 2) 2 two i) || never (eqb (field_number key) 3) 3 three i)
       (refuses message key read rows p (misses 2 two) (misses 3 three))))
 
 -- Of the messages above DATA only ACK has a field.
-pub ack-refuses : (key message : ℕ) (b t : Bool) → 9 ≤ message → ((eqb message 9 && eqb key 8) && not t) ≡ false →
-    Refuses message key (plainMarks b t) ((eqb message 9 && eqb (fieldNumber key) 1) && not t)
-unfolding formIn
-ack-refuses key message b t h = by-message (ℕ_discrete message 9)
+pub ack_refuses : (key message : ℕ) (b t : Bool) → 9 ≤ message → ((eqb message 9 && eqb key 8) && not t) ≡ false →
+    Refuses message key (plain_marks b t) ((eqb message 9 && eqb (field_number key) 1) && not t)
+unfolding form_in
+ack_refuses key message b t h = by_message (ℕ_discrete message 9)
   where
-    nine : (eqb key 8 && not t) ≡ false → Refuses 9 key (plainMarks b t) (eqb (fieldNumber key) 1 && not t)
-    nine p = only key 9 (plainMarks b t) record { none_below = refl; none_above = λ k. refl } refl refl p
+    nine : (eqb key 8 && not t) ≡ false → Refuses 9 key (plain_marks b t) (eqb (field_number key) 1 && not t)
+    nine p = only key 9 (plain_marks b t) record { none_below = refl; none_above = λ k. refl } refl refl p
 
-    by-message : Dec (message ≡ 9) → ((eqb message 9 && eqb key 8) && not t) ≡ false →
-        Refuses message key (plainMarks b t) ((eqb message 9 && eqb (fieldNumber key) 1) && not t)
-    by-message (yes e) = subst (λ (m : ℕ). ((eqb m 9 && eqb key 8) && not t) ≡ false → Refuses m key (plainMarks b t) ((eqb m 9 && eqb (fieldNumber key) 1) && not t)) (sym e) nine
-    by-message (no n) = λ p. rw (ne_eqb message 9 n) (none-refuses message key (plainMarks b t) (λ k. no-message message k (omega (arith, n))))
+    by_message : Dec (message ≡ 9) → ((eqb message 9 && eqb key 8) && not t) ≡ false →
+        Refuses message key (plain_marks b t) ((eqb message 9 && eqb (field_number key) 1) && not t)
+    by_message (yes e) = subst (λ (m : ℕ). ((eqb m 9 && eqb key 8) && not t) ≡ false → Refuses m key (plain_marks b t) ((eqb m 9 && eqb (field_number key) 1) && not t)) (sym e) nine
+    by_message (no n) = λ p. rw (ne_eqb message 9 n) (none_refuses message key (plain_marks b t) (λ k. no_message message k (omega (arith, n))))
 
 -- Whether a message below DATA has a field, which is then bytes.
-abbrev pub hasPart : ℕ → Bool
-hasPart message = (eqb message 4 || eqb message 6) || eqb message 7
+abbrev pub has_part : ℕ → Bool
+has_part message = (eqb message 4 || eqb message 6) || eqb message 7
 
-pub part-refuses : (key message : ℕ) (b t : Bool) → (message ≡ 1 → ⊥) → message < 8 → ((hasPart message && eqb key 10) && not b) ≡ false →
-    Refuses message key (plainMarks b t) ((hasPart message && eqb (fieldNumber key) 1) && not b)
-unfolding formIn
-part-refuses key zero b t n h p = none-refuses 0 key (plainMarks b t) (λ k. refl)
-part-refuses key (suc zero) b t n h p = absurd (n refl)
-part-refuses key (suc (suc zero)) b t n h p = none-refuses 2 key (plainMarks b t) (λ k. refl)
-part-refuses key (suc (suc (suc zero))) b t n h p = none-refuses 3 key (plainMarks b t) (λ k. refl)
-part-refuses key (suc (suc (suc (suc zero)))) b t n h p = only key 4 (plainMarks b t) record { none_below = refl; none_above = λ k. refl } refl refl p
-part-refuses key (suc (suc (suc (suc (suc zero))))) b t n h p = none-refuses 5 key (plainMarks b t) (λ k. refl)
-part-refuses key (suc (suc (suc (suc (suc (suc zero)))))) b t n h p = only key 6 (plainMarks b t) record { none_below = refl; none_above = λ k. refl } refl refl p
-part-refuses key (suc (suc (suc (suc (suc (suc (suc zero))))))) b t n h p = only key 7 (plainMarks b t) record { none_below = refl; none_above = λ k. refl } refl refl p
-part-refuses key (suc (suc (suc (suc (suc (suc (suc (suc m)))))))) b t n h p = absurd (omega arith)
+pub part_refuses : (key message : ℕ) (b t : Bool) → (message ≡ 1 → ⊥) → message < 8 → ((has_part message && eqb key 10) && not b) ≡ false →
+    Refuses message key (plain_marks b t) ((has_part message && eqb (field_number key) 1) && not b)
+unfolding form_in
+part_refuses key zero b t n h p = none_refuses 0 key (plain_marks b t) (λ k. refl)
+part_refuses key (suc zero) b t n h p = absurd (n refl)
+part_refuses key (suc (suc zero)) b t n h p = none_refuses 2 key (plain_marks b t) (λ k. refl)
+part_refuses key (suc (suc (suc zero))) b t n h p = none_refuses 3 key (plain_marks b t) (λ k. refl)
+part_refuses key (suc (suc (suc (suc zero)))) b t n h p = only key 4 (plain_marks b t) record { none_below = refl; none_above = λ k. refl } refl refl p
+part_refuses key (suc (suc (suc (suc (suc zero))))) b t n h p = none_refuses 5 key (plain_marks b t) (λ k. refl)
+part_refuses key (suc (suc (suc (suc (suc (suc zero)))))) b t n h p = only key 6 (plain_marks b t) record { none_below = refl; none_above = λ k. refl } refl refl p
+part_refuses key (suc (suc (suc (suc (suc (suc (suc zero))))))) b t n h p = only key 7 (plain_marks b t) record { none_below = refl; none_above = λ k. refl } refl refl p
+part_refuses key (suc (suc (suc (suc (suc (suc (suc (suc m)))))))) b t n h p = absurd (omega arith)
 
 -- A message below DATA that has a field has bytes at number 1.
-pub has-bytes : (message : ℕ) → hasPart message ≡ true → formIn message 1 ≡ Bytes
-unfolding formIn
-has-bytes message h = by_tests (eqb message 4) (eqb message 6) (eqb message 7) refl refl refl h
+pub has_bytes : (message : ℕ) → has_part message ≡ true → form_in message 1 ≡ Bytes
+unfolding form_in
+has_bytes message h = by_tests (eqb message 4) (eqb message 6) (eqb message 7) refl refl refl h
   where
-    at : (n : ℕ) → eqb message n ≡ true → formIn n 1 ≡ Bytes → formIn message 1 ≡ Bytes
-    at n p q = ap (λ (m : ℕ). formIn m 1) (eqb-true message n p) ∙ q
+    at : (n : ℕ) → eqb message n ≡ true → form_in n 1 ≡ Bytes → form_in message 1 ≡ Bytes
+    at n p q = ap (λ (m : ℕ). form_in m 1) (eqb-true message n p) ∙ q
 
-    by_tests : (a b c : Bool) → eqb message 4 ≡ a → eqb message 6 ≡ b → eqb message 7 ≡ c → ((a || b) || c) ≡ true → formIn message 1 ≡ Bytes
+    by_tests : (a b c : Bool) → eqb message 4 ≡ a → eqb message 6 ≡ b → eqb message 7 ≡ c → ((a || b) || c) ≡ true → form_in message 1 ≡ Bytes
     by_tests true b c p q r e = at 4 p refl
     by_tests false true c p q r e = at 6 q refl
     by_tests false false true p q r e = at 7 r refl
-    by_tests false false false p q r e = absurd-bool (sym e)
+    by_tests false false false p q r e = absurd_bool (sym e)

@@ -25,26 +25,26 @@ schema =
     ∷ []
 
 -- The form of a field of a message.
-unfoldable pub formIn : (message field : ℕ) → Form
-formIn message field = get_or (get_or schema message []) field Unknown
+unfoldable pub form_in : (message field : ℕ) → Form
+form_in message field = get_or (get_or schema message []) field Unknown
 
 -- The outer message's fields are the nine messages, length-delimited as bytes are.
-abbrev pub outerForm : ℕ → Form
-outerForm number = cond (leb 1 number && leb number 9) Bytes Unknown
+abbrev pub outer_form : ℕ → Form
+outer_form number = cond (leb 1 number && leb number 9) Bytes Unknown
 
 -- Whether the schema has no such field.
-abbrev pub isUnknown : Form → Bool
-isUnknown Unknown = true
-isUnknown Bytes = false
-isUnknown Provers = false
-isUnknown Verifiers = false
-isUnknown Bit = false
+abbrev pub is_unknown : Form → Bool
+is_unknown Unknown = true
+is_unknown Bytes = false
+is_unknown Provers = false
+is_unknown Verifiers = false
+is_unknown Bit = false
 
 -- A bit is a varint, wire type 0; the others are length-delimited, wire type 2. An unknown field is refused as such,
 -- whatever its type.
-abbrev pub wrongType : Form → ℕ → Bool
-wrongType Unknown wire = false
-wrongType Bytes wire = not (eqb wire 2)
-wrongType Provers wire = not (eqb wire 2)
-wrongType Verifiers wire = not (eqb wire 2)
-wrongType Bit wire = not (eqb wire 0)
+abbrev pub wrong_type : Form → ℕ → Bool
+wrong_type Unknown wire = false
+wrong_type Bytes wire = not (eqb wire 2)
+wrong_type Provers wire = not (eqb wire 2)
+wrong_type Verifiers wire = not (eqb wire 2)
+wrong_type Bit wire = not (eqb wire 0)

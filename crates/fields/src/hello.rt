@@ -1,7 +1,7 @@
 // The fields of a HELLO.
 ghost use Rattle.std.specs.Prelude.{◌≡◌, [], ◌+◌, ◌≤◌, length};
 ghost use Rattle.wire.specs.Lists.{padded};
-ghost use Rattle.fields.specs.Steps.{Content, HelloCounts, HelloStep, ProversContent, Reads, VerifiersContent, fields_of, helloIn, helloStep, inner_of};
+ghost use Rattle.fields.specs.Steps.{Content, HelloCounts, HelloStep, ProversContent, Reads, VerifiersContent, fields_of, hello_in, hello_step, inner_of};
 ghost use Rattle.fields.specs.Schema.{Bytes};
 
 use crate::keys::misfit;
@@ -46,7 +46,7 @@ pub enum Hello {
 }
 
 fn token_at(bytes: &[u8], place: usize) -> Field
-    ensures { Content Bytes bytes.now place (helloStep result) }
+    ensures { Content Bytes bytes.now place (hello_step result) }
 {
     let part = block_at(bytes, place);
     match part {
@@ -115,7 +115,7 @@ fn read_hello(
     verifiers: &mut [u32; 16],
 ) -> Hello
     requires { (provers.old ≡ padded []) × (verifiers.old ≡ padded []) }
-    ensures verifiers_after { helloIn result provers.new verifiers.new ≡ fields_of 1 bytes.now start }
+    ensures verifiers_after { hello_in result provers.new verifiers.new ≡ fields_of 1 bytes.now start }
     ensures hello_counts { HelloCounts result provers.new verifiers.new }
 {
     let mut read = NOTHING_READ;

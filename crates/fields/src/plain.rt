@@ -1,7 +1,7 @@
 // The fields of a message without lists: every one but HELLO.
 ghost use Rattle.std.specs.Prelude.{◌≡◌, Bool, ◌+◌, ◌<◌, ◌≤◌, length};
 ghost use Rattle.fields.specs.Schema.{Bit, Bytes};
-ghost use Rattle.fields.specs.Steps.{Content, PlainKey, PlainStep, ReadsPlain, fields_of, inner_of, plainIn, plainMarks, plainStep};
+ghost use Rattle.fields.specs.Steps.{Content, PlainKey, PlainStep, ReadsPlain, fields_of, inner_of, plain_in, plain_marks, plain_step};
 
 use crate::keys::misfit;
 use crate::{Contents, Span, keys, schema};
@@ -26,7 +26,7 @@ pub enum Plain {
 const NO_PART: Span = Span { place: 0, size: 0 };
 
 fn bytes_at(bytes: &[u8], place: usize) -> Field
-    ensures { Content Bytes bytes.now place (plainStep result) }
+    ensures { Content Bytes bytes.now place (plain_step result) }
 {
     let part = block_at(bytes, place);
     match part {
@@ -36,7 +36,7 @@ fn bytes_at(bytes: &[u8], place: usize) -> Field
 }
 
 fn bit_at(bytes: &[u8], place: usize) -> Field
-    ensures { Content Bit bytes.now place (plainStep result) }
+    ensures { Content Bit bytes.now place (plain_step result) }
 {
     let varint = bit(bytes, place);
     match varint {
@@ -48,7 +48,7 @@ fn bit_at(bytes: &[u8], place: usize) -> Field
 // A field of a message below DATA: three of these have bytes, the others no field.
 fn part_field(message: u32, key: u32, bytes: &[u8], next: usize, bytes_read: bool) -> Field
     requires { (message ≡ 1 → ⊥) × (message < 8) }
-    ensures { (bit : Bool) → PlainKey message key bytes.now next (plainMarks bytes_read bit) result }
+    ensures { (bit : Bool) → PlainKey message key bytes.now next (plain_marks bytes_read bit) result }
 {
     let has_part = (message == schema::DAT)
         | (message == schema::RA_PROVER)
@@ -61,7 +61,7 @@ fn part_field(message: u32, key: u32, bytes: &[u8], next: usize, bytes_read: boo
 }
 
 fn data_field(key: u32, bytes: &[u8], next: usize, bytes_read: bool, bit_read: bool) -> Field
-    ensures { PlainKey 8 key bytes.now next (plainMarks bytes_read bit_read) result }
+    ensures { PlainKey 8 key bytes.now next (plain_marks bytes_read bit_read) result }
 {
     if (key == keys::BYTES) & !bytes_read {
         return bytes_at(bytes, next);
@@ -78,7 +78,7 @@ fn data_field(key: u32, bytes: &[u8], next: usize, bytes_read: bool, bit_read: b
 // A field of a message above DATA: ACK has a bit, and no other number is a message's.
 fn ack_field(message: u32, key: u32, bytes: &[u8], next: usize, bit_read: bool) -> Field
     requires { 9 ≤ message }
-    ensures { (bytes-read : Bool) → PlainKey message key bytes.now next (plainMarks bytes-read bit_read) result }
+    ensures { (bytes-read : Bool) → PlainKey message key bytes.now next (plain_marks bytes-read bit_read) result }
 {
     let is_ack = message == schema::ACK;
     if is_ack & (key == keys::ACK_BIT) & !bit_read {
@@ -91,7 +91,7 @@ fn ack_field(message: u32, key: u32, bytes: &[u8], next: usize, bit_read: bool) 
 // One field: its key, and then what the key announces.
 fn next_field(message: u32, bytes: &[u8], place: usize, bytes_read: bool, bit_read: bool) -> Field
     requires { message ≡ 1 → ⊥ }
-    ensures { PlainStep message bytes.now place (plainMarks bytes_read bit_read) result }
+    ensures { PlainStep message bytes.now place (plain_marks bytes_read bit_read) result }
 {
     let key = number(bytes, place);
     match key {
@@ -112,7 +112,7 @@ fn next_field(message: u32, bytes: &[u8], place: usize, bytes_read: bool, bit_re
 // is copied in every turn.
 fn read_plain(message: u32, bytes: &[u8], start: usize) -> Plain
     requires { message ≡ 1 → ⊥ }
-    ensures { plainIn message result ≡ fields_of message bytes.now start }
+    ensures { plain_in message result ≡ fields_of message bytes.now start }
 {
     let mut bytes_read = false;
     let mut bit_read = false;

@@ -9,15 +9,15 @@ use Rattle.protocol.specs.declared.Actions.{Actions}
 use Rattle.protocol.specs.declared.Answer.{Answer}
 use Rattle.protocol.specs.declared.Outcome.{Outcome}
 use Rattle.record.specs.declared.Connection.{Connection}
-use Rattle.flat.specs.Flat.{as_number, recordIn, slots_of, actionsIn}
+use Rattle.flat.specs.Flat.{as_number, record_in, slots_of, actions_in}
 use Rattle.flat.specs.Written.{Written}
 
-number-back : (b : Bool) → eqb (as_number b) 1 ≡ b
-number-back true = refl
-number-back false = refl
+number_back : (b : Bool) → eqb (as_number b) 1 ≡ b
+number_back true = refl
+number_back false = refl
 
-actions-back : (a : Actions) → actionsIn (slots_of a) ≡ a
-actions-back a = λ i. record {
+actions_back : (a : Actions) → actions_in (slots_of a) ≡ a
+actions_back a = λ i. record {
   message = a.message;
   prover = a.prover;
   verifier = a.verifier;
@@ -29,7 +29,7 @@ actions-back a = λ i. record {
   ack = a.ack;
   dat_seconds = a.dat_seconds;
   bit = a.bit;
-  deliver = number-back a.deliver i;
+  deliver = number_back a.deliver i;
   verifier_suite = a.verifier_suite;
   prover_suite = a.prover_suite;
   payload_slice = a.payload_slice;
@@ -39,10 +39,10 @@ actions-back a = λ i. record {
 -- An outcome that was written in numbers.
 pub back : (o : Outcome) (answer : Answer) (numbers slots : List ℕ) (connection : Connection) (actions : Actions)
     → Written o answer numbers slots
-    → connection ≡ recordIn numbers
-    → actions ≡ actionsIn slots
+    → connection ≡ record_in numbers
+    → actions ≡ actions_in slots
     → ◌≡◌ {A = Outcome} (record { answer = answer; connection = connection; actions = actions }) o
 back o answer numbers slots connection actions w e f =
-    let c = e ∙ w.record-left in
-    let a = f ∙ ap actionsIn w.ordered ∙ actions-back o.actions in
+    let c = e ∙ w.record_left in
+    let a = f ∙ ap actions_in w.ordered ∙ actions_back o.actions in
     λ i. record { answer = w.answered i; connection = c i; actions = a i }

@@ -8,8 +8,8 @@ abbrev pub as_number : Bool → ℕ
 as_number held = cond held 1 0
 
 -- The fields of a record, in document 01's order.
-abbrev pub numbersOf : Connection → List ℕ
-numbersOf connection =
+abbrev pub numbers_of : Connection → List ℕ
+numbers_of connection =
     connection.state
     ∷ connection.awaiting_ack
     ∷ connection.next_send_bit
@@ -25,8 +25,8 @@ numbersOf connection =
     ∷ []
 
 -- The record that twelve numbers are.
-abbrev pub recordIn : List ℕ → Connection
-recordIn numbers = record {
+abbrev pub record_in : List ℕ → Connection
+record_in numbers = record {
   state = get_or numbers 0 0;
   awaiting_ack = get_or numbers 1 0;
   next_send_bit = get_or numbers 2 0;
@@ -63,8 +63,8 @@ slots_of actions =
     ∷ []
 
 -- The order sheet that sixteen numbers are.
-abbrev pub actionsIn : List ℕ → Actions
-actionsIn slots = record {
+abbrev pub actions_in : List ℕ → Actions
+actions_in slots = record {
   message = get_or slots 0 0;
   prover = get_or slots 1 0;
   verifier = get_or slots 2 0;

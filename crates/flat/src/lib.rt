@@ -1,6 +1,6 @@
 // Record and actions as numbers in a fixed order, as a host in C holds them.
 ghost use Rattle.std.specs.Prelude.{◌≡◌};
-ghost use Rattle.flat.specs.Flat.{actionsIn, as_number, numbersOf, recordIn, slots_of};
+ghost use Rattle.flat.specs.Flat.{actions_in, as_number, numbers_of, record_in, slots_of};
 ghost use Rattle.flat.specs.Written.{Written};
 
 use protocol::{Actions, Answer, Outcome};
@@ -15,7 +15,7 @@ pub fn as_number(yes: bool) -> u32
 
 // The record that twelve numbers are.
 pub fn record_in(numbers: &[u32; 12]) -> Connection
-    ensures { result ≡ recordIn numbers.now }
+    ensures { result ≡ record_in numbers.now }
 {
     Connection {
         state: numbers[0],
@@ -35,7 +35,7 @@ pub fn record_in(numbers: &[u32; 12]) -> Connection
 
 // The numbers of a record.
 pub fn numbers_of(connection: Connection) -> [u32; 12]
-    ensures { result ≡ numbersOf connection }
+    ensures { result ≡ numbers_of connection }
 {
     [
         connection.state,
@@ -79,7 +79,7 @@ pub fn slots_of(actions: Actions) -> [u32; 16]
 
 // The order sheet that sixteen numbers are.
 pub fn actions_in(slots: &[u32; 16]) -> Actions
-    ensures { result ≡ actionsIn slots.now }
+    ensures { result ≡ actions_in slots.now }
 {
     Actions {
         message: slots[0],

@@ -13,7 +13,7 @@ use table::codes::{
 
 // A tag is live if it isn't 0 and equals the record's tag of its driver or timer.
 fn live(tag: u32, own: u32) -> bool
-    ensures { result ≡ spec.isLive tag own }
+    ensures { result ≡ spec.is_live tag own }
 {
     (tag != 0) & (tag == own)
 }

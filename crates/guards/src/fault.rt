@@ -1,7 +1,7 @@
 // The faults of the arguments and of the record.
 ghost use Rattle.std.specs.Prelude.{◌≡◌, ◌∷◌, [], ◌++◌};
 ghost use Rattle.protocol.specs.Faults.{first_of};
-ghost use Rattle.protocol.specs.Refusal.{earlyFaults, illFormed, lateFaults};
+ghost use Rattle.protocol.specs.Refusal.{early_faults, ill_formed, late_faults};
 ghost use Rattle.record.specs.Limits.{limits};
 
 use event::{Input, timers};
@@ -14,7 +14,7 @@ const MAX_BIT: u32 = 1;
 
 // The lowest refusal from 1 to 7 whose fault is present, 0 if none is.
 pub fn lowest_fault(connection: Connection, code: u32, input: Input) -> u32
-    ensures { result ≡ first_of (earlyFaults code input ++ (illFormed limits connection ∷ [])) }
+    ensures { result ≡ first_of (early_faults code input ++ (ill_formed limits connection ∷ [])) }
 {
     if code > codes::ACK_TIMEOUT {
         return refusals::UNKNOWN_CODE;
@@ -42,7 +42,7 @@ pub fn lowest_fault(connection: Connection, code: u32, input: Input) -> u32
 
 // Of the faults that are checked last, the refusal of the first that is present, 0 if none is.
 pub fn late_fault(input: Input) -> u32
-    ensures { result ≡ first_of (lateFaults input) }
+    ensures { result ≡ first_of (late_faults input) }
 {
     if input.margin_too_large {
         return refusals::MARGIN_TOO_LARGE;

@@ -1,8 +1,8 @@
 // A message that arrived, given to the step. The host hands over the bytes, what it says of the token, and its own lists.
 ghost use Rattle.std.specs.Prelude.{◌≡◌};
-ghost use Rattle.flat.specs.Flat.{recordIn};
+ghost use Rattle.flat.specs.Flat.{record_in};
 ghost use Rattle.flat.specs.Written.{WrittenResult};
-ghost use Rattle.messages.specs.Flat.{flatIn};
+ghost use Rattle.messages.specs.Flat.{flat_in};
 ghost use Rattle.messages.specs.Outer.{reading_of};
 ghost use Rattle.inbound.specs.Received.{given, received};
 
@@ -30,9 +30,9 @@ pub fn receive(
     slots: &mut [u32; 16],
 ) -> Receipt
     ensures written_result { WrittenResult
-        (received (recordIn numbers.old) bytes.now (given token our_verifiers.now our_provers.now) cache.old)
+        (received (record_in numbers.old) bytes.now (given token our_verifiers.now our_provers.now) cache.old)
         result.answer numbers.new slots.new cache.new }
-    ensures place_value { result.place ≡ (flatIn (reading_of bytes.now)).place }
+    ensures place_value { result.place ≡ (flat_in (reading_of bytes.now)).place }
 {
     let mut provers = [0; 16];
     let mut verifiers = [0; 16];

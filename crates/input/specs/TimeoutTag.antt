@@ -4,9 +4,9 @@ use Rattle.event.specs.declared.EventKind.{EventKind}
 use Rattle.event.specs.declared.EventKind.TheVariants.{Plain, Tagged, HandshakeTimeout, Bit, Token}
 
 -- The tag of a handshake timeout; 0 for another kind.
-abbrev pub timeoutTag : EventKind → ℕ
-timeoutTag Plain = 0
-timeoutTag (Tagged tag) = 0
-timeoutTag (HandshakeTimeout tag timer) = tag
-timeoutTag (Bit bit) = 0
-timeoutTag (Token verdict margin expiry now) = 0
+abbrev pub timeout_tag : EventKind → ℕ
+timeout_tag Plain = 0
+timeout_tag (Tagged tag) = 0
+timeout_tag (HandshakeTimeout tag timer) = tag
+timeout_tag (Bit bit) = 0
+timeout_tag (Token verdict margin expiry now) = 0

@@ -2,9 +2,9 @@
 // and a field is read only from the kind that carries it.
 ghost use Rattle.std.specs.Prelude.{◌≡◌, ◌&&◌, ltb};
 ghost use Rattle.record.specs.Limits.{limits};
-ghost use Rattle.input.specs.TimeoutTag.{timeoutTag};
+ghost use Rattle.input.specs.TimeoutTag.{timeout_tag};
 ghost use Rattle.protocol.specs.Kind.{kind_of, fields_of};
-ghost use Rattle.protocol.specs.Input.{chosenSuites, suitesOf, carriesPayload, shortLength, inputBy};
+ghost use Rattle.protocol.specs.Input.{chosen_suites, suites_of, carries_payload, short_length, input_by};
 ghost use Rattle.suites.specs.Numbers.{answer_of};
 
 use event::{Event, EventKind, Input, Suites};
@@ -62,7 +62,7 @@ fn tag_in(kind: EventKind) -> u32
 }
 
 fn timeout_tag_in(kind: EventKind) -> u32
-    ensures { result ≡ timeoutTag kind }
+    ensures { result ≡ timeout_tag kind }
 {
     let EventKind::HandshakeTimeout { tag, timer: _ } = kind else {
         return 0;
@@ -108,7 +108,7 @@ fn seconds_in(kind: EventKind) -> u32
 
 // Whether a token's margin is too large.
 fn margin_too_large_in(kind: EventKind) -> bool
-    ensures { result ≡ (fields_of kind).largeMargin }
+    ensures { result ≡ (fields_of kind).large_margin }
 {
     let EventKind::Token {
         verdict: _,
@@ -124,7 +124,7 @@ fn margin_too_large_in(kind: EventKind) -> bool
 
 // Whether a token's verdict is neither yes nor no.
 fn wrong_verdict_in(kind: EventKind) -> bool
-    ensures { result ≡ (fields_of kind).wrongVerdict }
+    ensures { result ≡ (fields_of kind).wrong_verdict }
 {
     let EventKind::Token {
         verdict,
@@ -146,7 +146,7 @@ pub fn choose_suites(
     peer_verifiers: &[u32],
     our_provers: &[u32],
 ) -> Suites
-    ensures { result ≡ suitesOf code our_verifiers.now peer_provers.now peer_verifiers.now our_provers.now }
+    ensures { result ≡ suites_of code our_verifiers.now peer_provers.now peer_verifiers.now our_provers.now }
 {
     if code != SC_HELLO {
         return NO_SUITES;
@@ -158,7 +158,7 @@ pub fn choose_suites(
 
 // The suites of a choice.
 fn suites_in(too_long: bool, choice: Choice) -> Suites
-    ensures { result ≡ chosenSuites too_long (answer_of choice) }
+    ensures { result ≡ chosen_suites too_long (answer_of choice) }
 {
     let Choice::Chosen { verifier, prover } = choice else {
         return Suites {
@@ -178,7 +178,7 @@ fn suites_in(too_long: bool, choice: Choice) -> Suites
 
 // Nested as the list of the definition is.
 fn carries_payload(code: u32) -> bool
-    ensures { result ≡ carriesPayload code }
+    ensures { result ≡ carries_payload code }
 {
     (code == UPPER_SEND_DATA)
         | ((code == RA_VERIFIER_MSG)
@@ -188,14 +188,14 @@ fn carries_payload(code: u32) -> bool
 
 // A payload's length, 0 if it is too long.
 fn short_len(len: usize) -> u32
-    ensures { result ≡ shortLength limits len }
+    ensures { result ≡ short_length limits len }
 {
     if len > MAX_PAYLOAD { 0 } else { len as u32 }
 }
 
 // Whether an event carries a payload that is too long.
 fn payload_too_long(code: u32, len: usize) -> bool
-    ensures { result ≡ (carriesPayload code && ltb limits.payload len) }
+    ensures { result ≡ (carries_payload code && ltb limits.payload len) }
 {
     if len <= MAX_PAYLOAD {
         return false;
@@ -205,7 +205,7 @@ fn payload_too_long(code: u32, len: usize) -> bool
 
 // What the step reads of a call.
 pub fn read(event: Event, payload_len: usize, cache_len: usize, suites: Suites) -> Input
-    ensures { result ≡ inputBy limits event payload_len cache_len suites }
+    ensures { result ≡ input_by limits event payload_len cache_len suites }
 {
     let kind = kind_of(event);
     // In this order: with the seconds first the compiled step is longer.

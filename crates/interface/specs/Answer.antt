@@ -8,7 +8,7 @@ abbrev pub ignored : ℕ
 ignored = 100
 
 -- 0 for a handled call, 100 for an ignored one, else the number of the refusal.
-abbrev pub answerNumber : Answer → ℕ
-answerNumber Handled = 0
-answerNumber Ignored = ignored
-answerNumber (Refused number) = number
+abbrev pub answer_number : Answer → ℕ
+answer_number Handled = 0
+answer_number Ignored = ignored
+answer_number (Refused number) = number

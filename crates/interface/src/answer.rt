@@ -1,6 +1,6 @@
 // Answers as numbers.
 ghost use Rattle.std.specs.Prelude.{◌≡◌};
-ghost use Rattle.interface.specs.Answer.{answerNumber};
+ghost use Rattle.interface.specs.Answer.{answer_number};
 
 use protocol::Answer;
 
@@ -10,7 +10,7 @@ const HANDLED: u32 = 0;
 const IGNORED: u32 = 100;
 
 pub fn number_of(answer: Answer) -> u32
-    ensures { result ≡ answerNumber answer }
+    ensures { result ≡ answer_number answer }
 {
     match answer {
         Answer::Handled => HANDLED,

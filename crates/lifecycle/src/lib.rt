@@ -1,6 +1,6 @@
 // What opens and locks a connection: the handled events of document 01's opening note. What a function doesn't set stays as it is.
 ghost use Rattle.std.specs.Prelude.{◌≡◌};
-ghost use Rattle.effects.specs.ByEvent.{byEvent};
+ghost use Rattle.effects.specs.ByEvent.{by_event};
 
 mod locking;
 
@@ -12,7 +12,7 @@ use record::Connection;
 
 // UPPER_START_HANDSHAKE: sends a hello.
 pub fn start_handshake(connection: Connection, input: Input, to: u32, number: u32) -> Outcome
-    ensures { result ≡ byEvent number connection 0 input to }
+    ensures { result ≡ by_event number connection 0 input to }
 {
     let mut after = connection;
     after.state = to;
@@ -30,7 +30,7 @@ pub fn start_handshake(connection: Connection, input: Input, to: u32, number: u3
 
 // A good SC_HELLO: opens the connection and starts both drivers.
 pub fn open_connection(connection: Connection, input: Input, to: u32, number: u32) -> Outcome
-    ensures { result ≡ byEvent number connection 11 input to }
+    ensures { result ≡ by_event number connection 11 input to }
 {
     let mut after = connection;
     after.state = to;

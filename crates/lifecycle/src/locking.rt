@@ -1,6 +1,6 @@
 // Handled events that lock the connection.
 ghost use Rattle.std.specs.Prelude.{◌≡◌, not, ◌&&◌, cond, eqb};
-ghost use Rattle.effects.specs.ByEvent.{byLocking};
+ghost use Rattle.effects.specs.ByEvent.{by_locking};
 
 use effects::{NO_ACTIONS, pick};
 use event::{Input, timers};
@@ -22,7 +22,7 @@ fn ending_order(order: u32, reported: bool, tag: u32) -> u32
 // Stops every driver and cancels every timer that runs, but for the one that reports. It sends CLOSE, but no message at an
 // error or at the peer's own close.
 pub fn lock(connection: Connection, code: u32, input: Input, number: u32) -> Outcome
-    ensures { result ≡ byLocking number connection code input }
+    ensures { result ≡ by_locking number connection code input }
 {
     let silent = (code == codes::SC_ERROR) | (code == codes::SC_CLOSE);
     let proved = (code == codes::RA_PROVER_OK) | (code == codes::RA_PROVER_FAILED);

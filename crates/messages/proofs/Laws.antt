@@ -5,74 +5,74 @@ use Prim.Native.Nat.{ℕ, ◌+◌, ◌≤◌}
 use native.Mathlib.Omega.{arith}
 use lib.ListN.{length, take}
 use lib.Seq.{length-take-le}
-use Rattle.fault.specs.Fault.{Reading, leftmost, readAs, refused}
-use Rattle.wire.specs.Layout.{Block, block, faulty, blockAt, fieldsFrom, fieldNumber}
+use Rattle.fault.specs.Fault.{Reading, leftmost, read_as, refused}
+use Rattle.wire.specs.Layout.{Block, block, faulty, block_at, fields_from, field_number}
 use Rattle.wire.specs.Varint.{Number, value, fault, number_at}
-use Rattle.fault.proofs.First.{leftmost-first, none_first, read_none, refused-some}
-use Rattle.wire.proofs.Places.{BlockStands, block-stands}
-use Rattle.fields.specs.Schema.{Form, Unknown, Bytes, Provers, Verifiers, Bit, formIn}
-use Rattle.fields.specs.Message.{Message, empty, start_in, sizeIn, filled, withField, withFields, messageIn}
-use Rattle.messages.specs.Flat.{flatIn}
+use Rattle.fault.proofs.First.{leftmost_first, none_first, read_none, refused_some}
+use Rattle.wire.proofs.Places.{BlockStands, block_stands}
+use Rattle.fields.specs.Schema.{Form, Unknown, Bytes, Provers, Verifiers, Bit, form_in}
+use Rattle.fields.specs.Message.{Message, empty, start_in, size_in, filled, with_field, with_fields, message_in}
+use Rattle.messages.specs.Flat.{flat_in}
 use Rattle.messages.specs.Laws.{RefusedByFirst, MessageFaultless, PartLies}
-use Rattle.messages.specs.Outer.{faultsOf, messageBy, messageOf, reading_of}
+use Rattle.messages.specs.Outer.{faults_of, message_by, message_of, reading_of}
 
-pub message-faultless : MessageFaultless
+pub message_faultless : MessageFaultless
 unfolding reading_of
-message-faultless bytes m e = none_first (faultsOf bytes) (read_none (messageOf bytes) (leftmost (faultsOf bytes)) m e).0
+message_faultless bytes m e = none_first (faults_of bytes) (read_none (message_of bytes) (leftmost (faults_of bytes)) m e).0
 
-pub refused-by-first : RefusedByFirst
+pub refused_by_first : RefusedByFirst
 unfolding reading_of
-refused-by-first bytes number e =
-    let r = refused-some (messageOf bytes) (leftmost (faultsOf bytes)) number e in
-    (r.0, (r.1.1, leftmost-first (faultsOf bytes) r.0 r.1.0))
+refused_by_first bytes number e =
+    let r = refused_some (message_of bytes) (leftmost (faults_of bytes)) number e in
+    (r.0, (r.1.1, leftmost_first (faults_of bytes) r.0 r.1.0))
 
 -- The bytes of a message lie in it, whatever its faults.
 abbrev Lies : (bytes : List ℕ) → Message → Type 0
 Lies bytes m = m.place + m.size ≤ length bytes
 
-field-lies : (bytes : List ℕ) (form : Form) (place : ℕ) (m : Message) → Lies bytes m → Lies bytes (filled form bytes place m)
-field-lies bytes Unknown place m l = l
-field-lies bytes Bytes place m l = by-block (blockAt bytes place) (block-stands bytes place)
+field_lies : (bytes : List ℕ) (form : Form) (place : ℕ) (m : Message) → Lies bytes m → Lies bytes (filled form bytes place m)
+field_lies bytes Unknown place m l = l
+field_lies bytes Bytes place m l = by_block (block_at bytes place) (block_stands bytes place)
   where
-    by-block : (b : Block) → BlockStands bytes place b → start_in b + sizeIn b ≤ length bytes
-    by-block (block start size) s = s.1
-    by-block (faulty refusal) s = omega arith
-field-lies bytes Provers place m l = l
-field-lies bytes Verifiers place m l = l
-field-lies bytes Bit place m l = l
+    by_block : (b : Block) → BlockStands bytes place b → start_in b + size_in b ≤ length bytes
+    by_block (block start size) s = s.1
+    by_block (faulty refusal) s = omega arith
+field_lies bytes Provers place m l = l
+field_lies bytes Verifiers place m l = l
+field_lies bytes Bit place m l = l
 
-key-lies : (bytes : List ℕ) (n : Number) (m : Message) → Lies bytes m → Lies bytes (withField bytes n m)
-key-lies bytes (value key next) m l = field-lies bytes (formIn m.number (fieldNumber key)) next m l
-key-lies bytes (fault refusal) m l = l
+key_lies : (bytes : List ℕ) (n : Number) (m : Message) → Lies bytes m → Lies bytes (with_field bytes n m)
+key_lies bytes (value key next) m l = field_lies bytes (form_in m.number (field_number key)) next m l
+key_lies bytes (fault refusal) m l = l
 
-fields_lie : (bytes places : List ℕ) (m : Message) → Lies bytes m → Lies bytes (withFields bytes places m)
-unfolding withFields
+fields_lie : (bytes places : List ℕ) (m : Message) → Lies bytes m → Lies bytes (with_fields bytes places m)
+unfolding with_fields
 fields_lie bytes [] m l = l
-fields_lie bytes (place ∷ places) m l = fields_lie bytes places (withField bytes (number_at bytes place) m) (key-lies bytes (number_at bytes place) m l)
+fields_lie bytes (place ∷ places) m l = fields_lie bytes places (with_field bytes (number_at bytes place) m) (key_lies bytes (number_at bytes place) m l)
 
-message-lies : (bytes : List ℕ) → Lies bytes (messageOf bytes)
-message-lies bytes = by_key (number_at bytes 0)
+message_lies : (bytes : List ℕ) → Lies bytes (message_of bytes)
+message_lies bytes = by_key (number_at bytes 0)
   where
-    by-block : (number place : ℕ) (b : Block) → BlockStands bytes place b → Lies bytes (messageIn number bytes b)
-    by-block number place (block start size) s =
+    by_block : (number place : ℕ) (b : Block) → BlockStands bytes place b → Lies bytes (message_in number bytes b)
+    by_block number place (block start size) s =
         let message = take (start + size) bytes in
         let n : length message ≡ start + size = length-take-le (start + size) bytes s.1 in
-        let l = fields_lie message (fieldsFrom message start) (empty number) (omega arith) in
+        let l = fields_lie message (fields_from message start) (empty number) (omega arith) in
         omega (arith, n, l, s.1)
-    by-block number place (faulty refusal) s = omega arith
+    by_block number place (faulty refusal) s = omega arith
 
-    by_key : (n : Number) → Lies bytes (messageBy bytes n)
-    by_key (value key next) = by-block (fieldNumber key) next (blockAt bytes next) (block-stands bytes next)
+    by_key : (n : Number) → Lies bytes (message_by bytes n)
+    by_key (value key next) = by_block (field_number key) next (block_at bytes next) (block_stands bytes next)
     by_key (fault refusal) = omega arith
 
 pub part_lies : PartLies
 unfolding reading_of
-part_lies bytes m e = subst (Lies bytes) (read_none (messageOf bytes) (leftmost (faultsOf bytes)) m e).1 (message-lies bytes)
+part_lies bytes m e = subst (Lies bytes) (read_none (message_of bytes) (leftmost (faults_of bytes)) m e).1 (message_lies bytes)
 
 -- So does the part that the numbers of a reading name.
-pub numbers-lie : (bytes : List ℕ) → (flatIn (reading_of bytes)).place + (flatIn (reading_of bytes)).size ≤ length bytes
-numbers-lie bytes = by-reading (reading_of bytes) refl
+pub numbers_lie : (bytes : List ℕ) → (flat_in (reading_of bytes)).place + (flat_in (reading_of bytes)).size ≤ length bytes
+numbers_lie bytes = by_reading (reading_of bytes) refl
   where
-    by-reading : (r : Reading Message) → reading_of bytes ≡ r → (flatIn r).place + (flatIn r).size ≤ length bytes
-    by-reading (readAs m) e = part_lies bytes m e
-    by-reading (refused number) e = omega arith
+    by_reading : (r : Reading Message) → reading_of bytes ≡ r → (flat_in r).place + (flat_in r).size ≤ length bytes
+    by_reading (read_as m) e = part_lies bytes m e
+    by_reading (refused number) e = omega arith

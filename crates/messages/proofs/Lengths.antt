@@ -6,18 +6,18 @@ use native.Mathlib.Omega.{arith}
 use lib.ListN.{length, take, length-append, length-take, length-replicate}
 use mathlib.Core.Bool.{Bool, true, false, cond}
 use lib.Dec.{eqb}
-use Rattle.fault.specs.Fault.{Reading, readAs, refused}
+use Rattle.fault.specs.Fault.{Reading, read_as, refused}
 use Rattle.wire.specs.Lists.{entries, padded}
-use Rattle.wire.proofs.Lists.{length-padded}
+use Rattle.wire.proofs.Lists.{length_padded}
 use Rattle.fields.specs.Message as spec
-use Rattle.fields.specs.Contents.{proversAfter, verifiersAfter}
-use Rattle.messages.specs.Flat.{flatIn}
+use Rattle.fields.specs.Contents.{provers_after, verifiers_after}
+use Rattle.messages.specs.Flat.{flat_in}
 use Rattle.messages.specs.Outer.{reading_of}
 use Rattle.messages.specs.Promised.{ReadGives}
 use Rattle.messages.specs.declared.flat.FlatMessage.{FlatMessage}
 
-pub length-entries : (count : ℕ) (list : List ℕ) → length (entries count list) ≡ count
-length-entries count list = rw (length-append, length-take, length-replicate) (omega arith)
+pub length_entries : (count : ℕ) (list : List ℕ) → length (entries count list) ≡ count
+length_entries count list = rw (length-append, length-take, length-replicate) (omega arith)
 
 -- A list of sixteen has every entry that is counted.
 pub all_there : (count : ℕ) (list : List ℕ) → length list ≡ 16 → count ≤ 16 → entries count list ≡ take count list
@@ -28,22 +28,22 @@ all_there count list e h =
 -- The lists after a reading.
 module _ (before : List ℕ) (sixteen : length before ≡ 16) where
   written : (suites : List ℕ) → length suites ≤ 16 → (t : Bool) → length (cond t (padded suites) before) ≡ 16
-  written suites h true = length-padded suites h
+  written suites h true = length_padded suites h
   written suites h false = sixteen
 
-  provers-16 : (reading : Reading spec.Message) → (flatIn reading).provers ≤ 16 → length (proversAfter reading before) ≡ 16
-  provers-16 (readAs m) h = written m.provers h (eqb m.number 1)
-  provers-16 (refused number) h = sixteen
+  provers_16 : (reading : Reading spec.Message) → (flat_in reading).provers ≤ 16 → length (provers_after reading before) ≡ 16
+  provers_16 (read_as m) h = written m.provers h (eqb m.number 1)
+  provers_16 (refused number) h = sixteen
 
-  verifiers-16 : (reading : Reading spec.Message) → (flatIn reading).verifiers ≤ 16 → length (verifiersAfter reading before) ≡ 16
-  verifiers-16 (readAs m) h = written m.verifiers h (eqb m.number 1)
-  verifiers-16 (refused number) h = sixteen
+  verifiers_16 : (reading : Reading spec.Message) → (flat_in reading).verifiers ≤ 16 → length (verifiers_after reading before) ≡ 16
+  verifiers_16 (read_as m) h = written m.verifiers h (eqb m.number 1)
+  verifiers_16 (refused number) h = sixteen
 
 -- Both lists, by what reading gives.
-pub sixteen-left : {bytes provers verifiers proversLeft verifiersLeft : List ℕ} {m : FlatMessage} →
-    ReadGives bytes provers verifiers m proversLeft verifiersLeft → length provers ≡ 16 → length verifiers ≡ 16 →
-    (length proversLeft ≡ 16) × (length verifiersLeft ≡ 16)
-sixteen-left {bytes} {provers} {verifiers} g p v = (
-  ap length g.provers-are ∙ provers-16 provers p (reading_of bytes) (subst (λ (m : FlatMessage). m.provers ≤ 16) g.message-is g.counts.0),
-  ap length g.verifiers-are ∙ verifiers-16 verifiers v (reading_of bytes) (subst (λ (m : FlatMessage). m.verifiers ≤ 16) g.message-is g.counts.1),
+pub sixteen_left : {bytes provers verifiers provers_left verifiers_left : List ℕ} {m : FlatMessage} →
+    ReadGives bytes provers verifiers m provers_left verifiers_left → length provers ≡ 16 → length verifiers ≡ 16 →
+    (length provers_left ≡ 16) × (length verifiers_left ≡ 16)
+sixteen_left {bytes} {provers} {verifiers} g p v = (
+  ap length g.provers_are ∙ provers_16 provers p (reading_of bytes) (subst (λ (m : FlatMessage). m.provers ≤ 16) g.message_is g.counts.0),
+  ap length g.verifiers_are ∙ verifiers_16 verifiers v (reading_of bytes) (subst (λ (m : FlatMessage). m.verifiers ≤ 16) g.message_is g.counts.1),
 )

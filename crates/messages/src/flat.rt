@@ -1,7 +1,7 @@
 // A message as numbers, for a caller that cannot take an enum.
 ghost use Rattle.std.specs.Prelude.{◌≡◌};
 ghost use Rattle.messages.specs.Promised.{ReadGives};
-ghost use Rattle.messages.specs.Whole.{flatOf};
+ghost use Rattle.messages.specs.Whole.{flat_of};
 
 use crate::outer::contents_of;
 use fault::refusal_number;
@@ -23,7 +23,7 @@ pub struct FlatMessage {
 
 // The numbers of what a message holds.
 fn flat_of(contents: Contents) -> FlatMessage
-    ensures { result ≡ flatOf contents }
+    ensures { result ≡ flat_of contents }
 {
     match contents {
         Contents::Hello(held) => FlatMessage {

@@ -1,6 +1,6 @@
 // The outer message: one field, which holds one of the nine messages.
 ghost use Rattle.std.specs.Prelude.{◌≡◌};
-ghost use Rattle.fields.specs.Contents.{contentsIn, proversAfter, verifiersAfter};
+ghost use Rattle.fields.specs.Contents.{contents_in, provers_after, verifiers_after};
 ghost use Rattle.messages.specs.Outer.{reading_of};
 ghost use Rattle.messages.specs.Whole.{KnownContents, Opened};
 
@@ -48,9 +48,9 @@ pub(crate) fn contents_of(
     provers: &mut [u32; 16],
     verifiers: &mut [u32; 16],
 ) -> Contents
-    ensures verifiers_after { contentsIn result provers.new verifiers.new ≡ reading_of bytes.now }
-    ensures provers_after { provers.new ≡ proversAfter (reading_of bytes.now) provers.old }
-    ensures verifiers_after_2 { verifiers.new ≡ verifiersAfter (reading_of bytes.now) verifiers.old }
+    ensures verifiers_after { contents_in result provers.new verifiers.new ≡ reading_of bytes.now }
+    ensures provers_after { provers.new ≡ provers_after (reading_of bytes.now) provers.old }
+    ensures verifiers_after_2 { verifiers.new ≡ verifiers_after (reading_of bytes.now) verifiers.old }
     ensures known_contents { KnownContents result }
 {
     let found = outer_field(bytes);

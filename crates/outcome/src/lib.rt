@@ -2,13 +2,13 @@
 ghost use Rattle.std.specs.Prelude.{◌≡◌};
 ghost use Rattle.protocol.specs.Block as spec;
 ghost use Rattle.protocol.specs.Promised.{PartGives};
-ghost use Rattle.protocol.specs.Step.{refusalNumber};
+ghost use Rattle.protocol.specs.Step.{refusal_number};
 
 use protocol::{Actions, Answer, orders, refusals};
 
 // The number of a refusal, 0 for an answer that is none.
 pub fn refusal_number(answer: Answer) -> u32
-    ensures { result ≡ refusalNumber answer }
+    ensures { result ≡ refusal_number answer }
 {
     let Answer::Refused(number) = answer else {
         return refusals::NONE;

@@ -13,74 +13,74 @@ use Rattle.event.specs.Call.{Call}
 use Rattle.protocol.specs.Input.{input_of}
 use Rattle.event.specs.declared.Input.{Input}
 use Rattle.record.specs.Limits.{Limits}
-use Rattle.record.specs.Tags.{tag_of, runsIn}
+use Rattle.record.specs.Tags.{tag_of, runs_in}
 use Rattle.record.specs.Timer.{Timer}
 use Rattle.record.specs.WellFormed.{fresh}
 use Rattle.record.specs.declared.Connection.{Connection}
 use Rattle.table.specs.Table as table
-use Rattle.protocol.specs.Actions.{noActions, actionsOf}
+use Rattle.protocol.specs.Actions.{no_actions, actions_of}
 use Rattle.protocol.specs.Advance.{raised}
-use Rattle.protocol.specs.Agreement.{isHandled, when}
-use Rattle.protocol.specs.Audit.{Task, timerOf, orderTo, ending, mayGet, reportsEnd, Ledger, nothingRuns, isOn, isOnWith, reported, isSeen, stillRunning, afterOrder, entered, Audited, Audit}
-use Rattle.protocol.specs.Condition.{Condition, isLive, meets, holds, nextState}
-use Rattle.protocol.specs.Live.{isLiveFrom, isLiveEvent}
+use Rattle.protocol.specs.Agreement.{is_handled, when}
+use Rattle.protocol.specs.Audit.{Task, timer_of, order_to, ending, may_get, reports_end, Ledger, nothing_runs, is_on, is_on_with, reported, is_seen, still_running, after_order, entered, Audited, Audit}
+use Rattle.protocol.specs.Condition.{Condition, is_live, meets, holds, next_state}
+use Rattle.protocol.specs.Live.{is_live_from, is_live_event}
 use Rattle.protocol.specs.Orders as order
 use Rattle.protocol.specs.Step.{Result, result_of}
-use Rattle.protocol.specs.Timers.{starts, ends, tagAfter}
+use Rattle.protocol.specs.Timers.{starts, ends, tag_after}
 use Rattle.protocol.specs.declared.Answer.{Answer}
 use Rattle.protocol.specs.declared.Answer.TheVariants.{Ignored}
 use Rattle.protocol.proofs.Along.{along}
-use Rattle.protocol.proofs.Live.{nothing-live-ignored}
+use Rattle.protocol.proofs.Live.{nothing_live_ignored}
 use Rattle.protocol.proofs.Moved.{advanced}
-use Rattle.protocol.proofs.Reading.{sourced, name-read}
+use Rattle.protocol.proofs.Reading.{sourced, name_read}
 use Rattle.protocol.proofs.Stepped.{Stepped, refused, ignored, handled, stepped, next, still, moved_to, Unrefused, unrefused}
-use Rattle.protocol.proofs.Tasks.{unordered, may-get-none, orderIf, order-to, by-on, goesWith, Fit, fit, comes-from, same_end}
-use Rattle.record.proofs.WellFormed.{tag-0, parts, off-is}
+use Rattle.protocol.proofs.Tasks.{unordered, may_get_none, order_if, order_to_lem, by_on, goes_with, Fit, fit, comes_from, same_end}
+use Rattle.record.proofs.WellFormed.{tag_0, parts, off_is}
 use Rattle.table.proofs.Finite.{and_left, and_right, is_true, implied}
 
 -- Laws over tests and numbers. None of them knows the table.
 
 -- The tag with which a task runs, if it is on.
-abbrev onTag : ℕ → Option ℕ
-onTag tag = when (not (eqb tag 0)) tag
+abbrev on_tag : ℕ → Option ℕ
+on_tag tag = when (not (eqb tag 0)) tag
 
 -- The ledger goes with the tag.
-entry-law : (s e r runs started ended : Bool) (number tag : ℕ) → eqb tag 0 ≡ not runs → eqb number 0 ≡ false → T (goesWith s e r runs started ended)
-    → cond s (some number) (cond e none (cond r none (onTag tag))) ≡ onTag (tagAfter started ended number tag)
-entry-law true e r o true d n t p q g = rw q
-entry-law true e r o false d n t p q g = absurd g
-entry-law false e r o true d n t p q g = absurd g
-entry-law false true r o false true n t p q g = refl
-entry-law false false true o false true n t p q g = refl
-entry-law false false false true false true n t p q g = absurd g
-entry-law false false false false false true n t p q g = rw p
-entry-law false true r o false false n t p q g = absurd g
-entry-law false false true o false false n t p q g = absurd g
-entry-law false false false o false false n t p q g = refl
+entry_law : (s e r runs started ended : Bool) (number tag : ℕ) → eqb tag 0 ≡ not runs → eqb number 0 ≡ false → T (goes_with s e r runs started ended)
+    → cond s (some number) (cond e none (cond r none (on_tag tag))) ≡ on_tag (tag_after started ended number tag)
+entry_law true e r o true d n t p q g = rw q
+entry_law true e r o false d n t p q g = absurd g
+entry_law false e r o true d n t p q g = absurd g
+entry_law false true r o false true n t p q g = refl
+entry_law false false true o false true n t p q g = refl
+entry_law false false false true false true n t p q g = absurd g
+entry_law false false false false false true n t p q g = rw p
+entry_law false true r o false false n t p q g = absurd g
+entry_law false false true o false false n t p q g = absurd g
+entry_law false false false o false false n t p q g = refl
 
 -- What runs and is not reported runs still.
-still-law : (r runs : Bool) (tag : ℕ) → eqb tag 0 ≡ not runs → isOn (cond r none (onTag tag)) ≡ (runs && not r)
-still-law true true tag p = refl
-still-law true false tag p = refl
-still-law false true tag p = rw p
-still-law false false tag p = rw p
+still_law : (r runs : Bool) (tag : ℕ) → eqb tag 0 ≡ not runs → is_on (cond r none (on_tag tag)) ≡ (runs && not r)
+still_law true true tag p = refl
+still_law true false tag p = refl
+still_law false true tag p = rw p
+still_law false false tag p = rw p
 
 -- Without an order nothing starts or ends.
-quiet-law : (s e : Bool) (x y z : Option ℕ) → T (not (s || e)) → cond s x (cond e y z) ≡ z
-quiet-law true e x y z t = absurd t
-quiet-law false true x y z t = absurd t
-quiet-law false false x y z t = refl
+quiet_law : (s e : Bool) (x y z : Option ℕ) → T (not (s || e)) → cond s x (cond e y z) ≡ z
+quiet_law true e x y z t = absurd t
+quiet_law false true x y z t = absurd t
+quiet_law false false x y z t = refl
 
 -- To run with a tag is to be live.
-on-with-law : (tag own : ℕ) (zero same : Bool) → eqb own 0 ≡ zero → eqb tag own ≡ same → isOnWith tag (onTag own) ≡ isLive tag own
-on-with-law tag own true same z s = rw (eqb-true own 0 z, not-and_self)
-on-with-law tag own false true z s = rw (z, s, eqb-true tag own s, z)
-on-with-law tag own false false z s = rw (z, s, and-false)
+on_with_law : (tag own : ℕ) (zero same : Bool) → eqb own 0 ≡ zero → eqb tag own ≡ same → is_on_with tag (on_tag own) ≡ is_live tag own
+on_with_law tag own true same z s = rw (eqb-true own 0 z, not-and_self)
+on_with_law tag own false true z s = rw (z, s, eqb-true tag own s, z)
+on_with_law tag own false false z s = rw (z, s, and-false)
 
 -- A report that has to be live is one.
-report-law : (r live : Bool) → (T r → T live) → (r && live) ≡ r
-report-law true live h = is_true live (h tt)
-report-law false live h = refl
+report_law : (r live : Bool) → (T r → T live) → (r && live) ≡ r
+report_law true live h = is_true live (h tt)
+report_law false live h = refl
 
 -- What leads to a contradiction does not hold.
 never : (b : Bool) → (T b → ⊥) → b ≡ false
@@ -90,12 +90,12 @@ never false h = refl
 -- The ledger says what the record says: the number, and which tasks run with which tags.
 record Says (ledger : Ledger) (connection : Connection) : Type 0 where
   number : ledger.handled ≡ connection.handled
-  tags : (task : Task) → ledger.running task ≡ onTag (tag_of connection (timerOf task))
+  tags : (task : Task) → ledger.running task ≡ on_tag (tag_of connection (timer_of task))
 
 -- It does so after a call, and every task may get its order.
 record Checked (ledger : Ledger) (call : Call) (result : Result) : Type 0 where
   says : Says (entered ledger call result) result.outcome.connection
-  orders-fit : (task : Task) → T (mayGet task (isOn (stillRunning ledger call result.outcome.answer task)) (orderTo result.outcome.actions task))
+  orders_fit : (task : Task) → T (may_get task (is_on (still_running ledger call result.outcome.answer task)) (order_to result.outcome.actions task))
 
 -- One call. L: the ledger says what the record says before it.
 module _ (limits : Limits) (ledger : Ledger) (connection : Connection) (cache : List ℕ) (call : Call) (L : Says ledger connection) where
@@ -106,38 +106,38 @@ module _ (limits : Limits) (ledger : Ledger) (connection : Connection) (cache : 
   input = input_of limits call (length cache)
 
   abbrev own : Task → ℕ
-  own task = tag_of connection (timerOf task)
+  own task = tag_of connection (timer_of task)
 
   abbrev ended : Task → Bool
-  ended task = reportsEnd task k input.timer
+  ended task = reports_end task k input.timer
 
-  abbrev saysEnd : Task → Bool
-  saysEnd task = reportsEnd task k call.event.timer
+  abbrev says_end : Task → Bool
+  says_end task = reports_end task k call.event.timer
 
   -- What the ledger takes for a report of a task is live.
-  reported-is : (task : Task) → reported ledger call task ≡ (saysEnd task && isLive call.event.tag (own task))
-  reported-is task =
-      ap (λ (o : Option ℕ). saysEnd task && isOnWith call.event.tag o) (L.tags task)
-      ∙ ap (λ (b : Bool). saysEnd task && b) (on-with-law call.event.tag (own task) (eqb (own task) 0) (eqb call.event.tag (own task)) refl refl)
+  reported_is : (task : Task) → reported ledger call task ≡ (says_end task && is_live call.event.tag (own task))
+  reported_is task =
+      ap (λ (o : Option ℕ). says_end task && is_on_with call.event.tag o) (L.tags task)
+      ∙ ap (λ (b : Bool). says_end task && b) (on_with_law call.event.tag (own task) (eqb (own task) 0) (eqb call.event.tag (own task)) refl refl)
 
-  reported-live : (task : Task) → T (reported ledger call task) → T (isLiveEvent connection call.event)
-  reported-live task t =
-      let u = subst T (reported-is task) t in
-      subst⁻¹ (λ (x : Option Timer). T (isLiveFrom connection call.event.tag x)) (comes-from task k call.event.timer (and_left (saysEnd task) _ u)) (and_right (saysEnd task) _ u)
+  reported_live : (task : Task) → T (reported ledger call task) → T (is_live_event connection call.event)
+  reported_live task t =
+      let u = subst T (reported_is task) t in
+      subst⁻¹ (λ (x : Option Timer). T (is_live_from connection call.event.tag x)) (comes_from task k call.event.timer (and_left (says_end task) _ u)) (and_right (says_end task) _ u)
 
-  reports-not-ignored : (task : Task) → T (reported ledger call task) → (result_of limits connection call cache).outcome.answer ≡ Ignored → ⊥
-  reports-not-ignored task t = nothing-live-ignored limits connection call cache (reported-live task t)
+  reports_not_ignored : (task : Task) → T (reported ledger call task) → (result_of limits connection call cache).outcome.answer ≡ Ignored → ⊥
+  reports_not_ignored task t = nothing_live_ignored limits connection call cache (reported_live task t)
 
   -- A call that changes nothing orders nothing.
-  rests : (answer : Answer) → isHandled answer ≡ false → ((task : Task) → (isSeen answer && reported ledger call task) ≡ false) → Checked ledger call (still answer connection cache)
+  rests : (answer : Answer) → is_handled answer ≡ false → ((task : Task) → (is_seen answer && reported ledger call task) ≡ false) → Checked ledger call (still answer connection cache)
   rests answer e unseen = record {
     says = record {
       number = rw e L.number;
       tags = λ task.
-          quiet-law (eqb (orderTo noActions task) order.start) (eqb (orderTo noActions task) (ending task)) _ _ _ (unordered task)
+          quiet_law (eqb (order_to no_actions task) order.start) (eqb (order_to no_actions task) (ending task)) _ _ _ (unordered task)
           ∙ ap (λ (b : Bool). cond b none (ledger.running task)) (unseen task) ∙ L.tags task;
     };
-    orders-fit = λ task. may-get-none task _;
+    orders_fit = λ task. may_get_none task _;
   }
 
   -- A handled call.
@@ -146,30 +146,30 @@ module _ (limits : Limits) (ledger : Ledger) (connection : Connection) (cache : 
     to = next limits connection call cache
 
     abbrev runs : Task → Bool
-    runs task = runsIn (timerOf task) connection.state
+    runs task = runs_in (timer_of task) connection.state
 
     abbrev given : Task → ℕ
-    given task = orderIf connection.state k to input.timer task (runs task)
+    given task = order_if connection.state k to input.timer task (runs task)
 
     F : (task : Task) → Fit connection.state k to input.timer (holds connection k input) task
-    unfolding nextState
+    unfolding next_state
     F task = let p = parts limits connection U.well in fit connection.state k connection.awaiting_ack input.timer (holds connection k input) task p.state U.arguments.code p.flag U.arguments.timer heeded
 
-    on-is : (task : Task) → eqb (own task) 0 ≡ not (runs task)
-    on-is task = off-is limits connection (parts limits connection U.well) (timerOf task)
+    on_is : (task : Task) → eqb (own task) 0 ≡ not (runs task)
+    on_is task = off_is limits connection (parts limits connection U.well) (timer_of task)
 
-    order_is : (task : Task) → orderTo (actionsOf connection k input to) task ≡ given task
-    order_is task = order-to connection k input to task ∙ by-on connection.state k to input.timer task (own task) (runs task) (on-is task)
+    order_is : (task : Task) → order_to (actions_of connection k input to) task ≡ given task
+    order_is task = order_to_lem connection k input to task ∙ by_on connection.state k to input.timer task (own task) (runs task) (on_is task)
 
     -- A handled report is live, so that the ledger takes it.
-    report-is : (task : Task) → reported ledger call task ≡ ended task
+    report_is : (task : Task) → reported ledger call task ≡ ended task
     unfolding holds
-    report-is task =
-        let same = same_end task k call.event.timer input.timer (name-read limits call (length cache)) in
-        reported-is task
-        ∙ report-law (saysEnd task) (isLive call.event.tag (own task)) (λ r.
-        let s = sourced limits call (length cache) U.arguments.code (timerOf task) (comes-from task k call.event.timer r) in
-        subst (λ (tag : ℕ). T (isLive tag (own task))) s.1
+    report_is task =
+        let same = same_end task k call.event.timer input.timer (name_read limits call (length cache)) in
+        reported_is task
+        ∙ report_law (says_end task) (is_live call.event.tag (own task)) (λ r.
+        let s = sourced limits call (length cache) U.arguments.code (timer_of task) (comes_from task k call.event.timer r) in
+        subst (λ (tag : ℕ). T (is_live tag (own task))) s.1
         (subst (λ (c : Condition). T (meets connection input c)) s.0 (implied (ended task) _ (F task).live (subst T same r))))
         ∙ same
 
@@ -178,26 +178,26 @@ module _ (limits : Limits) (ledger : Ledger) (connection : Connection) (cache : 
       says = record {
         number = ap (λ (n : ℕ). n + 1) L.number ∙ sym (advanced connection k input to).number;
         tags = λ task.
-            let x = timerOf task in
-            (λ i. afterOrder (order_is task i) (ending task) (L.number i + 1) (cond (report-is task i) none (L.tags task i)))
-            ∙ entry-law (eqb (given task) order.start) (eqb (given task) (ending task)) (ended task) (runs task) (starts x k connection.state to) (ends x to) (raised connection) (own task)
-            (on-is task) (ne_eqb (raised connection) 0 (λ z. omega arith)) (F task).goes
-            ∙ ap onTag (sym ((advanced connection k input to).tag x));
+            let x = timer_of task in
+            (λ i. after_order (order_is task i) (ending task) (L.number i + 1) (cond (report_is task i) none (L.tags task i)))
+            ∙ entry_law (eqb (given task) order.start) (eqb (given task) (ending task)) (ended task) (runs task) (starts x k connection.state to) (ends x to) (raised connection) (own task)
+            (on_is task) (ne_eqb (raised connection) 0 (λ z. omega arith)) (F task).goes
+            ∙ ap on_tag (sym ((advanced connection k input to).tag x));
       };
-      orders-fit = λ task.
-          subst⁻¹ T ((λ i. mayGet task (isOn (cond (report-is task i) none (L.tags task i))) (order_is task i)) ∙ ap (λ (b : Bool). mayGet task b (given task)) (still-law (ended task) (runs task) (own task) (on-is task)))
+      orders_fit = λ task.
+          subst⁻¹ T ((λ i. may_get task (is_on (cond (report_is task i) none (L.tags task i))) (order_is task i)) ∙ ap (λ (b : Bool). may_get task b (given task)) (still_law (ended task) (runs task) (own task) (on_is task)))
           (F task).gets;
     }
 
   checked : Checked ledger call (result_of limits connection call cache)
-  checked = by-step (stepped limits connection call cache)
+  checked = by_step (stepped limits connection call cache)
     where
-      by-step : Stepped limits connection call cache → Checked ledger call (result_of limits connection call cache)
-      by-step (refused n e) = subst⁻¹ (Checked ledger call) e (rests _ refl (λ task. refl))
-      by-step (ignored n i e) =
+      by_step : Stepped limits connection call cache → Checked ledger call (result_of limits connection call cache)
+      by_step (refused n e) = subst⁻¹ (Checked ledger call) e (rests _ refl (λ task. refl))
+      by_step (ignored n i e) =
           subst⁻¹ (Checked ledger call) e
-          (rests Ignored refl (λ task. never (reported ledger call task) (λ t. reports-not-ignored task t (ap (λ (r : Result). r.outcome.answer) e))))
-      by-step (handled n i e) = subst⁻¹ (Checked ledger call) e (moves (unrefused limits connection call cache n) i)
+          (rests Ignored refl (λ task. never (reported ledger call task) (λ t. reports_not_ignored task t (ap (λ (r : Result). r.outcome.answer) e))))
+      by_step (handled n i e) = subst⁻¹ (Checked ledger call) e (moves (unrefused limits connection call cache n) i)
 
 -- The audit of any list of calls.
 pub audit : (limits : Limits) → Audit limits
@@ -205,5 +205,5 @@ audit limits cache calls =
     along limits Audited entered (λ ledger connection cache. Says ledger connection)
     (λ ledger connection cache call L.
     let c = checked limits ledger connection cache call L in
-    (record { tags-on = c.says.tags; orders-fit = c.orders-fit; reports-not-ignored = reports-not-ignored limits ledger connection cache call L }, c.says))
-    nothingRuns fresh cache (record { number = refl; tags = λ task. sym (ap onTag (tag-0 (timerOf task))) }) calls
+    (record { tags_on = c.says.tags; orders_fit = c.orders_fit; reports_not_ignored = reports_not_ignored limits ledger connection cache call L }, c.says))
+    nothing_runs fresh cache (record { number = refl; tags = λ task. sym (ap on_tag (tag_0 (timer_of task))) }) calls

@@ -12,72 +12,72 @@ use lib.ListN.{length}
 use lib.Signed.{le_z}
 use borrow.Author.Tests.{ne_eqb}
 use Rattle.event.specs.Call.{Call}
-use Rattle.protocol.specs.Input.{noSuites, chosenSuites, inputBy, input_of}
+use Rattle.protocol.specs.Input.{no_suites, chosen_suites, input_by, input_of}
 use Rattle.protocol.specs.Kind.{kind_of, is_yes}
 use Rattle.record.specs.Limits.{Limits}
 use Rattle.record.specs.Timer.{DAT}
-use Rattle.suites.specs.Choice.{anyTooLong}
-use Rattle.table.specs.Sets.{isIn}
+use Rattle.suites.specs.Choice.{any_too_long}
+use Rattle.table.specs.Sets.{is_in}
 use Rattle.table.specs.Table.{ignored}
-use Rattle.token.specs.Good.{goodSeconds}
-use Rattle.protocol.specs.Agreement.{Block, block, when, isHandled, data_of, acceptedAfter, opensBetween, tokenComesBetween, Agrees}
-use Rattle.protocol.specs.Arguments.{secondsOf, isGoodToken, choice_of, bothSuites}
+use Rattle.token.specs.Good.{good_seconds}
+use Rattle.protocol.specs.Agreement.{Block, block, when, is_handled, data_of, accepted_after, opens_between, token_comes_between, Agrees}
+use Rattle.protocol.specs.Arguments.{seconds_of, is_good_token, choice_of, both_suites}
 use Rattle.protocol.specs.Block.{front}
-use Rattle.protocol.specs.Condition.{conditionOf, meets, holds, nextState}
-use Rattle.protocol.specs.History.{History, hear, counts, notesAfter, counted, runs, state_of}
-use Rattle.protocol.specs.Notes.{Notes, isOpen, attested}
+use Rattle.protocol.specs.Condition.{condition_of, meets, holds, next_state}
+use Rattle.protocol.specs.History.{History, hear, counts, notes_after, counted, runs, state_of}
+use Rattle.protocol.specs.Notes.{Notes, is_open, attested}
 use Rattle.protocol.specs.Orders as order
 use Rattle.protocol.specs.Step.{Result}
-use Rattle.protocol.specs.Timers.{starts, ends, reports, timerOrder}
+use Rattle.protocol.specs.Timers.{starts, ends, reports, timer_order}
 use Rattle.protocol.specs.declared.Answer.{Answer}
 use Rattle.protocol.specs.declared.Answer.TheVariants.{Handled}
 use Rattle.record.specs.declared.Connection.{Connection}
 use Rattle.event.specs.declared.Input.{Input}
 use Rattle.event.specs.declared.Suites.{Suites}
-use Rattle.protocol.proofs.Blocks.{Blocks, blocks, front_of, when-same}
-use Rattle.protocol.proofs.Follows.{Follows, well-formed}
+use Rattle.protocol.proofs.Blocks.{Blocks, blocks, front_of, when_same}
+use Rattle.protocol.proofs.Follows.{Follows, well_formed_lem}
 use Rattle.protocol.proofs.Kept.{agreed, leads, kept}
 use Rattle.protocol.proofs.Moved.{advanced, Ordered, ordered}
 use Rattle.protocol.proofs.Standings.{Agree, Moves, ruled, alone}
-use Rattle.protocol.proofs.Reading.{readAt}
+use Rattle.protocol.proofs.Reading.{read_at}
 use Rattle.protocol.proofs.Stepped.{still, moved_to, Faultless}
-use Rattle.table.proofs.Arms.{at-keys, one_of}
+use Rattle.table.proofs.Arms.{at_keys, one_of}
 use Rattle.table.proofs.Finite.{and_left, and_right, is_true, implied}
 
 -- While a block waits it is the one last accepted.
 abbrev pub Waits : History → (accepted : Option Block) → Type 0
-Waits history accepted = T history.notes.waiting → accepted ≡ some (block history.nextSend history.block)
+Waits history accepted = T history.notes.waiting → accepted ≡ some (block history.next_send history.block)
 
 -- A call agrees with the history, and what it leaves follows the history after it.
 pub record Carried (limits : Limits) (size : ℕ) (history : History) (accepted : Option Block) (call : Call) (answer : Answer) (after : History) (result : Result) : Type 0 where
-  pub agrees : Agrees answer history after (acceptedAfter accepted call result) call result
+  pub agrees : Agrees answer history after (accepted_after accepted call result) call result
   pub follows : Follows limits size after result.outcome.connection result.cache
-  pub waits : Waits after (acceptedAfter accepted call result)
+  pub waits : Waits after (accepted_after accepted call result)
 
 -- A call that is not handled changes nothing. R: the record follows the history. W: a waiting block is the one last accepted.
 module _ (limits : Limits) (size : ℕ) (history : History) (accepted : Option Block) (connection : Connection) (cache : List ℕ)
     (R : Follows limits size history connection cache) (W : Waits history accepted) (call : Call) where
-  nothing-handled : (b : Bool) {A : Type 0} (codes : List ℕ) (value : A) → b ≡ false → none ≡ when (b && isIn codes call.event.code) value
-  nothing-handled true codes value e = absurd (subst T e tt)
-  nothing-handled false codes value e = refl
+  nothing_handled : (b : Bool) {A : Type 0} (codes : List ℕ) (value : A) → b ≡ false → none ≡ when (b && is_in codes call.event.code) value
+  nothing_handled true codes value e = absurd (subst T e tt)
+  nothing_handled false codes value e = refl
 
-  pub unmoved : (answer : Answer) → isHandled answer ≡ false → Carried limits size history accepted call answer history (still answer connection cache)
+  pub unmoved : (answer : Answer) → is_handled answer ≡ false → Carried limits size history accepted call answer history (still answer connection cache)
   unmoved answer e =
-      let last : acceptedAfter accepted call (still answer connection cache) ≡ accepted = rw e in
+      let last : accepted_after accepted call (still answer connection cache) ≡ accepted = rw e in
       record {
         agrees = record {
           answered = refl;
           state = R.state;
           number = R.number;
-          data-ordered = nothing-handled (isHandled answer) (2 ∷ 23 ∷ []) _ e;
-          ack-ordered = nothing-handled (isHandled answer) (18 ∷ []) _ e;
-          delivered = nothing-handled (isHandled answer) (18 ∷ []) _ e;
-          dat-seconds = rw (and-not_self (runs history.notes DAT));
-          verifier-suite = rw (and-not_self (isOpen history.notes.opening));
-          prover-suite = rw (and-not_self (isOpen history.notes.opening));
+          data_ordered = nothing_handled (is_handled answer) (2 ∷ 23 ∷ []) _ e;
+          ack_ordered = nothing_handled (is_handled answer) (18 ∷ []) _ e;
+          delivered = nothing_handled (is_handled answer) (18 ∷ []) _ e;
+          dat_seconds = rw (and-not_self (runs history.notes DAT));
+          verifier_suite = rw (and-not_self (is_open history.notes.opening));
+          prover_suite = rw (and-not_self (is_open history.notes.opening));
           quiet = λ t. (refl, refl);
           guarded = λ t. absurd t;
-          last-accepted = λ sent s. absurd (none-ne-some sent s);
+          last_accepted = λ sent s. absurd (none-ne-some sent s);
         };
         follows = R;
         waits = λ t. last ∙ W t;
@@ -85,30 +85,30 @@ module _ (limits : Limits) (size : ℕ) (history : History) (accepted : Option B
 
 -- Laws over tests. None of them knows the table.
 
-cond-true : {A : Type 0} (b : Bool) (x y : A) → T b → cond b x y ≡ x
-cond-true true x y t = refl
-cond-true false x y t = absurd t
+cond_true : {A : Type 0} (b : Bool) (x y : A) → T b → cond b x y ≡ x
+cond_true true x y t = refl
+cond_true false x y t = absurd t
 
 when_true : {A : Type 0} (b : Bool) (x : A) → T b → when b x ≡ some x
 when_true true x t = refl
 when_true false x t = absurd t
 
-when-some : {A : Type 0} (b : Bool) (x y : A) → when b x ≡ some y → T b
-when-some true x y e = tt
-when-some false x y e = absurd (none-ne-some y e)
+when_some : {A : Type 0} (b : Bool) (x y : A) → when b x ≡ some y → T b
+when_some true x y e = tt
+when_some false x y e = absurd (none-ne-some y e)
 
 -- A block goes on waiting at an event other than 2 that does not end it, and waits after 2 and 23.
-waiting-on : (locks accepts ends waits : Bool) → T (cond locks false (cond accepts true (cond ends false waits))) → accepts ≡ false → (ends ≡ false) × T waits
-waiting-on true a e w t p = absurd t
-waiting-on false true e w t p = absurd (subst T p tt)
-waiting-on false false true w t p = absurd t
-waiting-on false false false w t p = (refl, t)
+waiting_on : (locks accepts ends waits : Bool) → T (cond locks false (cond accepts true (cond ends false waits))) → accepts ≡ false → (ends ≡ false) × T waits
+waiting_on true a e w t p = absurd t
+waiting_on false true e w t p = absurd (subst T p tt)
+waiting_on false false true w t p = absurd t
+waiting_on false false false w t p = (refl, t)
 
-waiting-then : (locks accepts ends waits repeats : Bool) → locks ≡ false → ends ≡ false → T (not repeats || waits) → T (accepts || repeats)
+waiting_then : (locks accepts ends waits repeats : Bool) → locks ≡ false → ends ≡ false → T (not repeats || waits) → T (accepts || repeats)
     → T (cond locks false (cond accepts true (cond ends false waits)))
-waiting-then locks true e w r l p h t = rw l tt
-waiting-then locks false e w true l p h t = rw (l, p) h
-waiting-then locks false e w false l p h t = absurd t
+waiting_then locks true e w r l p h t = rw l tt
+waiting_then locks false e w true l p h t = rw (l, p) h
+waiting_then locks false e w false l p h t = absurd t
 
 -- The next-send bit and the block, seen in the record before and after an event that neither locks nor ends the wait.
 same_bit : (locks ends : Bool) (c flip x y : ℕ) → locks ≡ false → ends ≡ false → c ≡ cond locks 0 (cond ends flip x) → c ≡ cond locks 0 y → x ≡ y
@@ -118,40 +118,40 @@ same_bytes : (locks accepts ends : Bool) (c payload x y : List ℕ) → locks �
 same_bytes locks accepts ends c payload x y l e p q = sym (rw (l, e) at p) ∙ q
 
 -- The block in the cache of a record that follows, while it waits.
-held-block : (limits : Limits) (size : ℕ) (history : History) (connection : Connection) (cache : List ℕ) → Follows limits size history connection cache
+held_block : (limits : Limits) (size : ℕ) (history : History) (connection : Connection) (cache : List ℕ) → Follows limits size history connection cache
     → limits.payload ≤ size → T history.notes.waiting → front connection.cached_len cache ≡ history.block
-held-block limits size history connection cache R h t =
+held_block limits size history connection cache R h t =
     let s = R.short in
     let l = R.size_is in
-    ap (λ (n : ℕ). front n cache) (R.length-is ∙ cond-true history.notes.waiting (length history.block) 0 t)
+    ap (λ (n : ℕ). front n cache) (R.length_is ∙ cond_true history.notes.waiting (length history.block) 0 t)
     ∙ front_of (length history.block) cache (omega arith) ∙ R.kept
 
 -- A timer's order is a start just if it starts.
-is-start : (started ended reported off : Bool) (tag : ℕ) → eqb tag 0 ≡ off → eqb (timerOrder started ended reported tag) order.start ≡ started
-is-start true ended reported off tag e = refl
-is-start false true true off tag e = refl
-is-start false true false true tag e = rw e
-is-start false true false false tag e = rw e
-is-start false false reported off tag e = refl
+is_start : (started ended reported off : Bool) (tag : ℕ) → eqb tag 0 ≡ off → eqb (timer_order started ended reported tag) order.start ≡ started
+is_start true ended reported off tag e = refl
+is_start false true true off tag e = refl
+is_start false true false true tag e = rw e
+is_start false true false false tag e = rw e
+is_start false false reported off tag e = refl
 
 -- The length of a timer that starts where a token comes, which locks nothing.
-length-law : (locks started comes : Bool) (seconds : ℕ) (left : ℤ) → started ≡ comes → (T comes → (locks ≡ false) × (pos seconds ≡ left))
+length_law : (locks started comes : Bool) (seconds : ℕ) (left : ℤ) → started ≡ comes → (T comes → (locks ≡ false) × (pos seconds ≡ left))
     → pos (cond locks 0 (cond started seconds 0)) ≡ cond comes left (pos 0)
-length-law locks started true seconds left e h = rw (e, (h tt).0) (h tt).1
-length-law true started false seconds left e h = refl
-length-law false started false seconds left e h = rw e
+length_law locks started true seconds left e h = rw (e, (h tt).0) (h tt).1
+length_law true started false seconds left e h = refl
+length_law false started false seconds left e h = rw e
 
 -- A suite is ordered by a hello that does not lock, and is one of those that are read with a hello alone.
-suite-law : (locks hello : Bool) (suites : Suites) (suite : Suites → ℕ) → cond locks 0 (cond hello (suite (cond hello suites noSuites)) 0) ≡ cond (hello && not locks) (suite suites) 0
-suite-law true true suites suite = refl
-suite-law true false suites suite = refl
-suite-law false true suites suite = refl
-suite-law false false suites suite = refl
+suite_law : (locks hello : Bool) (suites : Suites) (suite : Suites → ℕ) → cond locks 0 (cond hello (suite (cond hello suites no_suites)) 0) ≡ cond (hello && not locks) (suite suites) 0
+suite_law true true suites suite = refl
+suite_law true false suites suite = refl
+suite_law false true suites suite = refl
+suite_law false false suites suite = refl
 
 -- The seconds of a good token are its seconds left.
-good-is-left : (left : ℤ) (verdict : Bool) → T (verdict && le_z (pos 1) left) → pos (goodSeconds verdict left) ≡ left
-good-is-left (pos n) verdict t = ap (λ (b : Bool). pos (cond b n 0)) (is_true (verdict && le_z (pos 1) (pos n)) t)
-good-is-left (negsuc n) verdict t = absurd (and_right verdict (le_z (pos 1) (negsuc n)) t)
+good_is_left : (left : ℤ) (verdict : Bool) → T (verdict && le_z (pos 1) left) → pos (good_seconds verdict left) ≡ left
+good_is_left (pos n) verdict t = ap (λ (b : Bool). pos (cond b n 0)) (is_true (verdict && le_z (pos 1) (pos n)) t)
+good_is_left (negsuc n) verdict t = absurd (and_right verdict (le_z (pos 1) (negsuc n)) t)
 
 -- A handled call. F: the record after it follows the history after it. G: what the event does to the notes. B: what it does to blocks.
 module _ (limits : Limits) (history : History) (accepted : Option Block) (connection : Connection) (cache : List ℕ)
@@ -168,7 +168,7 @@ module _ (limits : Limits) (history : History) (accepted : Option Block) (connec
 
   -- The notes, the history and the result after the event, if it counts.
   abbrev m : Notes
-  m = notesAfter n k (hear history call)
+  m = notes_after n k (hear history call)
 
   abbrev after : History
   after = counted history call
@@ -185,7 +185,7 @@ module _ (limits : Limits) (history : History) (accepted : Option Block) (connec
   O = ordered connection k input (state_of m)
 
   abbrev suites : Suites
-  suites = chosenSuites (anyTooLong call.ourVerifiers call.peerProvers call.peerVerifiers call.ourProvers) (choice_of call)
+  suites = chosen_suites (any_too_long call.our_verifiers call.peer_provers call.peer_verifiers call.our_provers) (choice_of call)
 
   module _ (counting : T (counts n k (hear history call))) where
     F : Follows limits (length cache) after result.outcome.connection result.cache
@@ -195,73 +195,73 @@ module _ (limits : Limits) (history : History) (accepted : Option Block) (connec
     G = together.move counting
 
     -- The table leads to the state that the notes stand for then.
-    pub leads-there : nextState connection k input ≡ state_of m
-    leads-there = leads limits (length cache) history connection cache R call arguments ∙ cond-true (counts n k (hear history call)) (state_of m) ignored counting
+    pub leads_there : next_state connection k input ≡ state_of m
+    leads_there = leads limits (length cache) history connection cache R call arguments ∙ cond_true (counts n k (hear history call)) (state_of m) ignored counting
 
     pub heeded : eqb (state_of m) ignored ≡ false
-    heeded = let s = (alone m G.consistent-after).state in ne_eqb (state_of m) ignored (λ e. omega arith)
+    heeded = let s = (alone m G.consistent_after).state in ne_eqb (state_of m) ignored (λ e. omega arith)
 
     B : Blocks connection call cache (state_of m) result
-    B = blocks limits connection call cache (state_of m) arguments (well-formed limits (length cache) history connection cache R) leads-there heeded
+    B = blocks limits connection call cache (state_of m) arguments (well_formed_lem limits (length cache) history connection cache R) leads_there heeded
 
     -- An event that orders DATA neither locks nor ends the wait.
-    module _ (sends : T (isIn (2 ∷ 23 ∷ []) k)) where
+    module _ (sends : T (is_in (2 ∷ 23 ∷ []) k)) where
       stays_open : eqb (state_of m) 9 ≡ false
-      stays_open = B.stays (at-keys (λ j. T (isIn (2 ∷ 18 ∷ 19 ∷ 23 ∷ []) j)) (2 ∷ 23 ∷ []) (tt, tt) k (one_of (2 ∷ 23 ∷ []) k sends))
+      stays_open = B.stays (at_keys (λ j. T (is_in (2 ∷ 18 ∷ 19 ∷ 23 ∷ []) j)) (2 ∷ 23 ∷ []) (tt, tt) k (one_of (2 ∷ 23 ∷ []) k sends))
 
       no_end : eqb k 19 ≡ false
-      no_end = at-keys (λ j. eqb j 19 ≡ false) (2 ∷ 23 ∷ []) (refl, refl) k (one_of (2 ∷ 23 ∷ []) k sends)
+      no_end = at_keys (λ j. eqb j 19 ≡ false) (2 ∷ 23 ∷ []) (refl, refl) k (one_of (2 ∷ 23 ∷ []) k sends)
 
-      waits-then : T m.waiting
-      waits-then = subst T G.waits (waiting-then (eqb (state_of m) 9) (eqb k 2) (eqb k 19) n.waiting (eqb k 23) stays_open no_end G.repeats sends)
+      waits_then : T m.waiting
+      waits_then = subst T G.waits (waiting_then (eqb (state_of m) 9) (eqb k 2) (eqb k 19) n.waiting (eqb k 23) stays_open no_end G.repeats sends)
 
-      bit-then : connection.next_send_bit ≡ after.nextSend
+      bit_then : connection.next_send_bit ≡ after.next_send
       unfolding counted
-      bit-then = same_bit (eqb (state_of m) 9) (eqb k 19) result.outcome.connection.next_send_bit _ _ _ stays_open no_end (advanced connection k input (state_of m)).next-send F.next-send
+      bit_then = same_bit (eqb (state_of m) 9) (eqb k 19) result.outcome.connection.next_send_bit _ _ _ stays_open no_end (advanced connection k input (state_of m)).next_send F.next_send
 
-      bytes-then : cond (eqb k 2) call.payload (front connection.cached_len cache) ≡ after.block
+      bytes_then : cond (eqb k 2) call.payload (front connection.cached_len cache) ≡ after.block
       unfolding counted
-      bytes-then =
+      bytes_then =
           same_bytes (eqb (state_of m) 9) (eqb k 2) (eqb k 19) (front result.outcome.connection.cached_len result.cache) _ _ _ stays_open no_end B.held
-          (held-block limits (length cache) after result.outcome.connection result.cache F arguments.cache waits-then)
+          (held_block limits (length cache) after result.outcome.connection result.cache F arguments.cache waits_then)
 
-    data-then : data_of result ≡ when (isIn (2 ∷ 23 ∷ []) k) (block after.nextSend after.block)
-    data-then = B.data-ordered ∙ when-same (isIn (2 ∷ 23 ∷ []) k) (isIn (2 ∷ 23 ∷ []) k) _ _ refl (λ s i. block (bit-then s i) (bytes-then s i))
+    data_then : data_of result ≡ when (is_in (2 ∷ 23 ∷ []) k) (block after.next_send after.block)
+    data_then = B.data_ordered ∙ when_same (is_in (2 ∷ 23 ∷ []) k) (is_in (2 ∷ 23 ∷ []) k) _ _ refl (λ s i. block (bit_then s i) (bytes_then s i))
 
-    waits-by : (a : Bool) → eqb k 2 ≡ a → T m.waiting → cond a (some (block result.outcome.actions.bit call.payload)) accepted ≡ some (block after.nextSend after.block)
+    waits_by : (a : Bool) → eqb k 2 ≡ a → T m.waiting → cond a (some (block result.outcome.actions.bit call.payload)) accepted ≡ some (block after.next_send after.block)
     unfolding counted
-    waits-by true e t =
-        let s : T (isIn (2 ∷ 23 ∷ []) k) = rw e tt in
-        let p = sym (ap (λ (a : Bool). cond a call.payload (front connection.cached_len cache)) e) ∙ bytes-then s in
-        λ i. some (block ((B.data-bit s ∙ bit-then s) i) (p i))
-    waits-by false e t =
-        let w = waiting-on (eqb (state_of m) 9) (eqb k 2) (eqb k 19) n.waiting (subst⁻¹ T G.waits t) e in
-        let p = ap (λ (a : Bool). cond a (1 - history.nextSend) history.nextSend) (G.acknowledges ∙ w.0) in
-        let q = ap (λ (a : Bool). cond a call.payload history.block) (G.accepts-is ∙ e) in
+    waits_by true e t =
+        let s : T (is_in (2 ∷ 23 ∷ []) k) = rw e tt in
+        let p = sym (ap (λ (a : Bool). cond a call.payload (front connection.cached_len cache)) e) ∙ bytes_then s in
+        λ i. some (block ((B.data_bit s ∙ bit_then s) i) (p i))
+    waits_by false e t =
+        let w = waiting_on (eqb (state_of m) 9) (eqb k 2) (eqb k 19) n.waiting (subst⁻¹ T G.waits t) e in
+        let p = ap (λ (a : Bool). cond a (1 - history.next_send) history.next_send) (G.acknowledges ∙ w.0) in
+        let q = ap (λ (a : Bool). cond a call.payload history.block) (G.accepts_is ∙ e) in
         W w.1 ∙ (λ i. some (block (sym p i) (sym q i)))
 
     -- The seconds of the token that comes are those that the step reads.
-    seconds-read : T (tokenComesBetween n m) → (eqb (state_of m) 9 ≡ false) × (pos input.seconds ≡ secondsOf call.event)
-    unfolding holds inputBy kind_of
-    seconds-read t =
-        let b = together.token-comes counting t in
-        let good = good-is-left (secondsOf call.event) (is_yes call.event.verdict) in (
+    seconds_read : T (token_comes_between n m) → (eqb (state_of m) 9 ≡ false) × (pos input.seconds ≡ seconds_of call.event)
+    unfolding holds input_by kind_of
+    seconds_read t =
+        let b = together.token_comes counting t in
+        let good = good_is_left (seconds_of call.event) (is_yes call.event.verdict) in (
           b.1.1,
-          at-keys (λ j. let read = readAt limits call (length cache) j in T (meets connection read (conditionOf j read.timer)) → pos read.seconds ≡ secondsOf call.event) (11 ∷ 13 ∷ [])
-              (λ h. good (and_left (isGoodToken call.event) (bothSuites call) h), good) k (one_of (11 ∷ 13 ∷ []) k b.0) b.1.0,
+          at_keys (λ j. let read = read_at limits call (length cache) j in T (meets connection read (condition_of j read.timer)) → pos read.seconds ≡ seconds_of call.event) (11 ∷ 13 ∷ [])
+              (λ h. good (and_left (is_good_token call.event) (both_suites call) h), good) k (one_of (11 ∷ 13 ∷ []) k b.0) b.1.0,
         )
 
-    dat-seconds : pos result.outcome.actions.dat_seconds ≡ cond (tokenComesBetween n m) (secondsOf call.event) (pos 0)
-    dat-seconds =
+    dat_seconds : pos result.outcome.actions.dat_seconds ≡ cond (token_comes_between n m) (seconds_of call.event) (pos 0)
+    dat_seconds =
         ap pos O.seconds
-        ∙ length-law (eqb (state_of m) 9) _ (tokenComesBetween n m) input.seconds (secondsOf call.event)
-        (is-start (starts DAT k connection.state (state_of m)) (ends DAT (state_of m)) (reports DAT k input.timer) (eqb connection.dat 0) connection.dat refl
-        ∙ ap (λ (s : ℕ). starts DAT k s (state_of m)) R.state ∙ G.dat-starts)
-        seconds-read
+        ∙ length_law (eqb (state_of m) 9) _ (token_comes_between n m) input.seconds (seconds_of call.event)
+        (is_start (starts DAT k connection.state (state_of m)) (ends DAT (state_of m)) (reports DAT k input.timer) (eqb connection.dat 0) connection.dat refl
+        ∙ ap (λ (s : ℕ). starts DAT k s (state_of m)) R.state ∙ G.dat_starts)
+        seconds_read
 
-    suite-is : (suite : Suites → ℕ) → cond (eqb (state_of m) 9) 0 (cond (eqb k 11) (suite input.suites) 0) ≡ cond (opensBetween n m) (suite suites) 0
-    unfolding inputBy
-    suite-is suite = suite-law (eqb (state_of m) 9) (eqb k 11) suites suite ∙ ap (λ (b : Bool). cond b (suite suites) 0) (sym G.opens-is)
+    suite_is : (suite : Suites → ℕ) → cond (eqb (state_of m) 9) 0 (cond (eqb k 11) (suite input.suites) 0) ≡ cond (opens_between n m) (suite suites) 0
+    unfolding input_by
+    suite_is suite = suite_law (eqb (state_of m) 9) (eqb k 11) suites suite ∙ ap (λ (b : Bool). cond b (suite suites) 0) (sym G.opens_is)
 
     pub moves : Carried limits (length cache) history accepted call Handled after result
     unfolding counted
@@ -270,18 +270,18 @@ module _ (limits : Limits) (history : History) (accepted : Option Block) (connec
         answered = refl;
         state = F.state;
         number = F.number;
-        data-ordered = data-then;
-        ack-ordered = B.ack-ordered;
+        data_ordered = data_then;
+        ack_ordered = B.ack_ordered;
         delivered = B.delivered;
-        dat-seconds = dat-seconds;
-        verifier-suite = O.verifier-suite ∙ suite-is (λ s. s.verifier);
-        prover-suite = O.prover-suite ∙ suite-is (λ s. s.prover);
+        dat_seconds = dat_seconds;
+        verifier_suite = O.verifier_suite ∙ suite_is (λ s. s.verifier);
+        prover_suite = O.prover_suite ∙ suite_is (λ s. s.prover);
         quiet = λ t. absurd t;
-        guarded = λ t. let g = implied (isIn (2 ∷ 23 ∷ []) k || eqb k 18) (attested n && attested m) G.guarded (subst T (λ i. B.is-data i || B.delivers i) t) in (and_left (attested n) (attested m) g, and_right (attested n) (attested m) g);
-        last-accepted = λ sent e.
-            let s = when-some (isIn (2 ∷ 23 ∷ []) k) _ sent (sym data-then ∙ e) in
-            waits-by (eqb k 2) refl (waits-then s) ∙ sym (data-then ∙ when_true (isIn (2 ∷ 23 ∷ []) k) _ s) ∙ e;
+        guarded = λ t. let g = implied (is_in (2 ∷ 23 ∷ []) k || eqb k 18) (attested n && attested m) G.guarded (subst T (λ i. B.is_data i || B.delivers i) t) in (and_left (attested n) (attested m) g, and_right (attested n) (attested m) g);
+        last_accepted = λ sent e.
+            let s = when_some (is_in (2 ∷ 23 ∷ []) k) _ sent (sym data_then ∙ e) in
+            waits_by (eqb k 2) refl (waits_then s) ∙ sym (data_then ∙ when_true (is_in (2 ∷ 23 ∷ []) k) _ s) ∙ e;
       };
       follows = F;
-      waits = waits-by (eqb k 2) refl;
+      waits = waits_by (eqb k 2) refl;
     }

@@ -1,22 +1,22 @@
 -- Cases 1 to 12 of document 01 hold.
 -- Assumes nothing.
 use mathlib.Core.Path.{refl}
-use Rattle.token.specs.Answer.{timeLeft}
-use Rattle.token.specs.SecondsLeft.{secondsLeft}
+use Rattle.token.specs.Answer.{time_left}
+use Rattle.token.specs.SecondsLeft.{seconds_left}
 use Rattle.suites.specs.Choice.{find, choice}
 use Rattle.table.specs.Table.{cell}
-use Rattle.protocol.specs.Actions.{actionsOf}
+use Rattle.protocol.specs.Actions.{actions_of}
 use Rattle.protocol.specs.Advance.{advance}
 use Rattle.protocol.specs.Block.{part_of}
-use Rattle.protocol.specs.Input.{inputBy}
+use Rattle.protocol.specs.Input.{input_by}
 use Rattle.protocol.specs.Cases.{Holds, AllHold, cases}
-use Rattle.protocol.specs.Condition.{holds, nextState}
+use Rattle.protocol.specs.Condition.{holds, next_state}
 use Rattle.protocol.specs.Kind.{kind_of}
 use Rattle.protocol.specs.Refusal.{refusal}
-use Rattle.protocol.specs.Run.{resultsOf}
+use Rattle.protocol.specs.Run.{results_of}
 use Rattle.protocol.specs.Step.{decided, result_of}
-use Rattle.record.specs.WellFormed.{wellFormed}
+use Rattle.record.specs.WellFormed.{well_formed}
 
 pub worked : AllHold cases
-unfolding AllHold Holds resultsOf result_of decided refusal nextState holds cell advance actionsOf part_of inputBy kind_of wellFormed choice find timeLeft secondsLeft
+unfolding AllHold Holds results_of result_of decided refusal next_state holds cell advance actions_of part_of input_by kind_of well_formed choice find time_left seconds_left
 worked = (refl, (refl, (refl, (refl, (refl, (refl, (refl, (refl, (refl, (refl, (refl, (refl, (refl, (refl, tt))))))))))))))

@@ -6,71 +6,71 @@ use mathlib.Core.List.{List, [], ◌∷◌, ◌++◌}
 use Prim.Native.Nat.{ℕ}
 use lib.Dec.{eqb}
 use borrow.Author.Tests.{eqb-true}
-use Rattle.protocol.specs.Condition.{nextState}
+use Rattle.protocol.specs.Condition.{next_state}
 use Rattle.record.specs.Limits.{Limits}
 use Rattle.protocol.specs.Faults.{Row, first_of}
-use Rattle.protocol.specs.Refusal.{earlyFaults, illFormed, exhausted, lateFaults, refusal}
-use Rattle.protocol.specs.Step.{refusalNumber, unchanged, handledTo, decidedBy, decided}
+use Rattle.protocol.specs.Refusal.{early_faults, ill_formed, exhausted, late_faults, refusal}
+use Rattle.protocol.specs.Step.{refusal_number, unchanged, handled_to, decided_by, decided}
 use Rattle.protocol.specs.declared.Answer.TheVariants.{Ignored, Refused}
 use Rattle.record.specs.declared.Connection.{Connection}
 use Rattle.protocol.specs.declared.Outcome.{Outcome}
 use Rattle.event.specs.declared.Input.{Input}
-use Rattle.protocol.proofs.Faults.{first-of, NoneOf, none_of}
+use Rattle.protocol.proofs.Faults.{first_of_lem, NoneOf, none_of}
 
 module _ (limits : Limits) (connection : Connection) (code : ℕ) (input : Input) where
   -- Faults 1 to 7.
-  abbrev pub lowerFaults : List Row
-  lowerFaults = earlyFaults code input ++ (illFormed limits connection ∷ [])
+  abbrev pub lower_faults : List Row
+  lower_faults = early_faults code input ++ (ill_formed limits connection ∷ [])
 
   -- The refusal, of the lowest of them, the next state and whether the number is the largest.
-  abbrev numberBy : (lower to : ℕ) (full : Bool) → ℕ
-  numberBy lower to full = cond (eqb lower 0) (cond (not (eqb to 11) && full) 8 (first_of (lateFaults input))) lower
+  abbrev number_by_faults : (lower to : ℕ) (full : Bool) → ℕ
+  number_by_faults lower to full = cond (eqb lower 0) (cond (not (eqb to 11) && full) 8 (first_of (late_faults input))) lower
 
   -- The outcome, by the same.
   abbrev judged : (lower to : ℕ) (full : Bool) → Outcome
-  judged lower to full = decidedBy (numberBy lower to full) to connection code input
+  judged lower to full = decided_by (number_by_faults lower to full) to connection code input
 
   -- The refusal, by the lower faults, fault 8 and those that are checked last.
-  refusal-by : refusal limits connection code input ≡ numberBy (first_of lowerFaults) (nextState connection code input) (eqb connection.handled limits.handled)
+  refusal_by : refusal limits connection code input ≡ number_by_faults (first_of lower_faults) (next_state connection code input) (eqb connection.handled limits.handled)
   unfolding refusal
-  refusal-by = first-of lowerFaults (exhausted limits connection code input ∷ lateFaults input) tt
+  refusal_by = first_of_lem lower_faults (exhausted limits connection code input ∷ late_faults input) tt
 
-  decided-by : decided limits connection code input ≡ judged (first_of lowerFaults) (nextState connection code input) (eqb connection.handled limits.handled)
+  decided_by_lem : decided limits connection code input ≡ judged (first_of lower_faults) (next_state connection code input) (eqb connection.handled limits.handled)
   unfolding decided
-  decided-by = rw refusal-by
+  decided_by_lem = rw refusal_by
 
-  module _ (lower to : ℕ) (full : Bool) (is-lower : lower ≡ first_of lowerFaults) (is-next : to ≡ nextState connection code input) (is-full : eqb connection.handled limits.handled ≡ full) where
-    as-judged : judged lower to full ≡ decided limits connection code input
-    as-judged =
+  module _ (lower to : ℕ) (full : Bool) (is-lower : lower ≡ first_of lower_faults) (is-next : to ≡ next_state connection code input) (is-full : eqb connection.handled limits.handled ≡ full) where
+    as_judged : judged lower to full ≡ decided limits connection code input
+    as_judged =
         ap (λ (l : ℕ). judged l to full) is-lower ∙
-        ap (λ (t : ℕ). judged (first_of lowerFaults) t full) is-next ∙
-        ap (λ (f : Bool). judged (first_of lowerFaults) (nextState connection code input) f) (sym is-full) ∙
-        sym decided-by
+        ap (λ (t : ℕ). judged (first_of lower_faults) t full) is-next ∙
+        ap (λ (f : Bool). judged (first_of lower_faults) (next_state connection code input) f) (sym is-full) ∙
+        sym decided_by_lem
 
     pub refused : eqb lower 0 ≡ false → unchanged (Refused lower) connection ≡ decided limits connection code input
-    refused e = rw (e, e) at as-judged
+    refused e = rw (e, e) at as_judged
 
-    pub ignored : lower ≡ 0 → to ≡ 11 → cond (eqb (first_of (lateFaults input)) 0) (unchanged Ignored connection) (unchanged (Refused (first_of (lateFaults input))) connection) ≡ decided limits connection code input
-    ignored e i = rw (e, i) at as-judged
+    pub ignored : lower ≡ 0 → to ≡ 11 → cond (eqb (first_of (late_faults input)) 0) (unchanged Ignored connection) (unchanged (Refused (first_of (late_faults input))) connection) ≡ decided limits connection code input
+    ignored e i = rw (e, i) at as_judged
 
     pub refused_full : lower ≡ 0 → eqb to 11 ≡ false → full ≡ true → unchanged (Refused 8) connection ≡ decided limits connection code input
-    refused_full e i f = rw (e, i, f) at as-judged
+    refused_full e i f = rw (e, i, f) at as_judged
 
-    pub handled : lower ≡ 0 → eqb to 11 ≡ false → full ≡ false → cond (eqb (first_of (lateFaults input)) 0) (handledTo to connection code input) (unchanged (Refused (first_of (lateFaults input))) connection) ≡ decided limits connection code input
-    handled e i f = rw (e, i, f) at as-judged
+    pub handled : lower ≡ 0 → eqb to 11 ≡ false → full ≡ false → cond (eqb (first_of (late_faults input)) 0) (handled_to to connection code input) (unchanged (Refused (first_of (late_faults input))) connection) ≡ decided limits connection code input
+    handled e i f = rw (e, i, f) at as_judged
 
   -- What the lower faults say where none is present.
-  pub no-faults : 0 ≡ first_of lowerFaults → NoneOf lowerFaults
-  no-faults e = none_of lowerFaults tt (sym e)
+  pub no_faults : 0 ≡ first_of lower_faults → NoneOf lower_faults
+  no_faults e = none_of lower_faults tt (sym e)
 
-  number_by : (n to : ℕ) (none ignores : Bool) → eqb n 0 ≡ none → eqb to 11 ≡ ignores → refusalNumber (decidedBy n to connection code input).answer ≡ n
+  number_by : (n to : ℕ) (none ignores : Bool) → eqb n 0 ≡ none → eqb to 11 ≡ ignores → refusal_number (decided_by n to connection code input).answer ≡ n
   number_by n to true true e i = rw (e, i) (sym (eqb-true n 0 e))
   number_by n to true false e i = rw (e, i) (sym (eqb-true n 0 e))
   number_by n to false ignores e i = rw e refl
 
-  pub number_is : refusalNumber (decided limits connection code input).answer ≡ refusal limits connection code input
+  pub number_is : refusal_number (decided limits connection code input).answer ≡ refusal limits connection code input
   unfolding decided
   number_is =
       let n = refusal limits connection code input in
-      let to = nextState connection code input in
+      let to = next_state connection code input in
       number_by n to (eqb n 0) (eqb to 11) refl refl

@@ -6,14 +6,14 @@ use Prim.Native.Nat.{ℕ}
 use lib.Dec.{ltb}
 use lib.IntN.{ℤ, ◌-ℤ◌}
 use Rattle.token.specs.Answer.{Answer}
-use Rattle.token.specs.Good.{good, goodSeconds}
+use Rattle.token.specs.Good.{good, good_seconds}
 use Rattle.token.specs.SecondsLeft.{clamped}
-use Rattle.token.proofs.NoMargin.{no-margin}
+use Rattle.token.proofs.NoMargin.{no_margin}
 use Rattle.protocol.specs.Kind.{is_yes, fields, fields_of}
 use Rattle.event.specs.declared.EventKind.TheVariants.{Token}
 
 -- Whether the token is good, and its seconds, are those of expiry minus now, and fault 9 is absent.
-pub read-without-margin : (verdict : ℕ) (expiry now : ℤ) → let left = clamped (expiry -ℤ now) in
-    fields_of (Token verdict 0 expiry now) ≡ fields 0 0 0 (good (is_yes verdict) left) (goodSeconds (is_yes verdict) left) false (ltb 1 verdict)
-read-without-margin verdict expiry now =
-    ap (λ (answer : Answer). fields 0 0 0 (good (is_yes verdict) answer.seconds) (goodSeconds (is_yes verdict) answer.seconds) false (ltb 1 verdict)) (no-margin expiry now)
+pub read_without_margin : (verdict : ℕ) (expiry now : ℤ) → let left = clamped (expiry -ℤ now) in
+    fields_of (Token verdict 0 expiry now) ≡ fields 0 0 0 (good (is_yes verdict) left) (good_seconds (is_yes verdict) left) false (ltb 1 verdict)
+read_without_margin verdict expiry now =
+    ap (λ (answer : Answer). fields 0 0 0 (good (is_yes verdict) answer.seconds) (good_seconds (is_yes verdict) answer.seconds) false (ltb 1 verdict)) (no_margin expiry now)

@@ -5,14 +5,14 @@ use Rattle.event.specs.Call.{Call}
 use Rattle.record.specs.Limits.{Limits}
 use Rattle.record.specs.Timer.{DAT}
 use Rattle.record.specs.WellFormed.{fresh}
-use Rattle.table.specs.Sets.{isIn}
-use Rattle.protocol.specs.Actions.{noActions}
+use Rattle.table.specs.Sets.{is_in}
+use Rattle.protocol.specs.Actions.{no_actions}
 use Rattle.protocol.specs.Along.{Along}
-use Rattle.protocol.specs.Arguments.{secondsOf, choice_of}
-use Rattle.protocol.specs.History.{History, first, answerTo, historyAfter, runs, state_of}
-use Rattle.protocol.specs.Notes.{Notes, isOpen, attested}
+use Rattle.protocol.specs.Arguments.{seconds_of, choice_of}
+use Rattle.protocol.specs.History.{History, first, answer_to, history_after, runs, state_of}
+use Rattle.protocol.specs.Notes.{Notes, is_open, attested}
 use Rattle.protocol.specs.Orders as order
-use Rattle.protocol.specs.Run.{resultsOf}
+use Rattle.protocol.specs.Run.{results_of}
 use Rattle.protocol.specs.Step.{Result}
 use Rattle.protocol.specs.declared.Answer.{Answer}
 use Rattle.protocol.specs.declared.Answer.TheVariants.{Handled, Ignored, Refused}
@@ -32,43 +32,43 @@ when true value = some value
 when false value = none
 
 -- Whether an answer is that the call was handled.
-abbrev pub isHandled : Answer → Bool
-isHandled Handled = true
-isHandled Ignored = false
-isHandled (Refused number) = false
+abbrev pub is_handled : Answer → Bool
+is_handled Handled = true
+is_handled Ignored = false
+is_handled (Refused number) = false
 
 -- Whether a call was handled and its code is one of these.
-abbrev pub handledAs : (codes : List ℕ) → Answer → Call → Bool
-handledAs codes answer call = isHandled answer && isIn codes call.event.code
+abbrev pub handled_as : (codes : List ℕ) → Answer → Call → Bool
+handled_as codes answer call = is_handled answer && is_in codes call.event.code
 
 -- The DATA that a result orders: its bit, and the payload part.
 abbrev pub data_of : Result → Option Block
 data_of result = when (eqb result.outcome.actions.message order.DATA) (block result.outcome.actions.bit result.part)
 
 -- The bit of the ACK that it orders.
-abbrev pub ackOf : Result → Option ℕ
-ackOf result = when (eqb result.outcome.actions.message order.ACK) result.outcome.actions.bit
+abbrev pub ack_of : Result → Option ℕ
+ack_of result = when (eqb result.outcome.actions.message order.ACK) result.outcome.actions.bit
 
 -- The bytes that it delivers: the payload part.
-abbrev pub deliveredOf : Result → Option (List ℕ)
-deliveredOf result = when result.outcome.actions.deliver result.part
+abbrev pub delivered_of : Result → Option (List ℕ)
+delivered_of result = when result.outcome.actions.deliver result.part
 
 -- Whether it orders DATA or delivers a block.
-abbrev pub movesData : Result → Bool
-movesData result = eqb result.outcome.actions.message order.DATA || result.outcome.actions.deliver
+abbrev pub moves_data : Result → Bool
+moves_data result = eqb result.outcome.actions.message order.DATA || result.outcome.actions.deliver
 
 -- The block last accepted at or before a call, given the one before it: a handled event 2 accepts its payload, with the bit of its DATA.
-abbrev pub acceptedAfter : Option Block → Call → Result → Option Block
-acceptedAfter accepted call result =
-    cond (handledAs (2 ∷ []) result.outcome.answer call) (some (block result.outcome.actions.bit call.payload)) accepted
+abbrev pub accepted_after : Option Block → Call → Result → Option Block
+accepted_after accepted call result =
+    cond (handled_as (2 ∷ []) result.outcome.answer call) (some (block result.outcome.actions.bit call.payload)) accepted
 
 -- Whether the connection opens between these notes.
-abbrev pub opensBetween : (before after : Notes) → Bool
-opensBetween before after = isOpen after.opening && not (isOpen before.opening)
+abbrev pub opens_between : (before after : Notes) → Bool
+opens_between before after = is_open after.opening && not (is_open before.opening)
 
 -- Whether the token becomes current: at the opening, and at its return.
-abbrev pub tokenComesBetween : (before after : Notes) → Bool
-tokenComesBetween before after = runs after DAT && not (runs before DAT)
+abbrev pub token_comes_between : (before after : Notes) → Bool
+token_comes_between before after = runs after DAT && not (runs before DAT)
 
 -- A call and its result agree with the history: the one before the call and the one after it, and the block last accepted at or before it.
 pub record Agrees (answer : Answer) (before after : History) (accepted : Option Block) (call : Call) (result : Result) : Type 0 where
@@ -79,22 +79,22 @@ pub record Agrees (answer : Answer) (before after : History) (accepted : Option 
   -- The number is how many events have been counted.
   pub number : result.outcome.connection.handled ≡ after.count
   -- Just a handled 2 or 23 orders DATA, with the next-send bit and the block's bytes as payload part.
-  pub data-ordered : data_of result ≡ when (handledAs (2 ∷ 23 ∷ []) answer call) (block after.nextSend after.block)
+  pub data_ordered : data_of result ≡ when (handled_as (2 ∷ 23 ∷ []) answer call) (block after.next_send after.block)
   -- Just a handled 18 orders ACK, with its bit.
-  pub ack-ordered : ackOf result ≡ when (handledAs (18 ∷ []) answer call) call.event.bit
+  pub ack_ordered : ack_of result ≡ when (handled_as (18 ∷ []) answer call) call.event.bit
   -- Just a handled 18 delivers, with its payload as the part.
-  pub delivered : deliveredOf result ≡ when (handledAs (18 ∷ []) answer call) call.payload
+  pub delivered : delivered_of result ≡ when (handled_as (18 ∷ []) answer call) call.payload
   -- The DAT timer's length is the seconds left of a token that becomes current, else 0.
-  pub dat-seconds : pos result.outcome.actions.dat_seconds ≡ cond (tokenComesBetween before.notes after.notes) (secondsOf call.event) (pos 0)
+  pub dat_seconds : pos result.outcome.actions.dat_seconds ≡ cond (token_comes_between before.notes after.notes) (seconds_of call.event) (pos 0)
   -- Both suites are the ones chosen from the call's lists where the connection opens, else 0.
-  pub verifier-suite : result.outcome.actions.verifier_suite ≡ cond (opensBetween before.notes after.notes) (choice_of call).verifier.suite 0
-  pub prover-suite : result.outcome.actions.prover_suite ≡ cond (opensBetween before.notes after.notes) (choice_of call).prover.suite 0
+  pub verifier_suite : result.outcome.actions.verifier_suite ≡ cond (opens_between before.notes after.notes) (choice_of call).verifier.suite 0
+  pub prover_suite : result.outcome.actions.prover_suite ≡ cond (opens_between before.notes after.notes) (choice_of call).prover.suite 0
   -- A call that is not handled orders nothing and has no part.
-  pub quiet : T (not (isHandled answer)) → (result.outcome.actions ≡ noActions) × (result.part ≡ [])
+  pub quiet : T (not (is_handled answer)) → (result.outcome.actions ≡ no_actions) × (result.part ≡ [])
   -- Data moves only while the token is current and both runs are good, before the call and after it.
-  pub guarded : T (movesData result) → T (attested before.notes) × T (attested after.notes)
+  pub guarded : T (moves_data result) → T (attested before.notes) × T (attested after.notes)
   -- Every DATA carries the bytes and the bit of the block last accepted.
-  pub last-accepted : (sent : Block) → data_of result ≡ some sent → accepted ≡ some sent
+  pub last_accepted : (sent : Block) → data_of result ≡ some sent → accepted ≡ some sent
 
 -- What calls have led to: the history, and the block last accepted.
 pub record Past : Type 0 where
@@ -102,27 +102,27 @@ pub record Past : Type 0 where
   pub accepted : Option Block
 
 -- Before the first call.
-abbrev pub noPast : Past
-noPast = record { history = first; accepted = none }
+abbrev pub no_past : Past
+no_past = record { history = first; accepted = none }
 
 -- After a call, given what led to it.
-abbrev pub pastAfter : Limits → (cacheLength : ℕ) → Past → Call → Result → Past
-pastAfter limits cacheLength past call result = record {
-  history = historyAfter limits cacheLength past.history call;
-  accepted = acceptedAfter past.accepted call result;
+abbrev pub past_after : Limits → (cache_length : ℕ) → Past → Call → Result → Past
+past_after limits cache_length past call result = record {
+  history = history_after limits cache_length past.history call;
+  accepted = accepted_after past.accepted call result;
 }
 
 -- A call and its result agree with what led to the call.
-abbrev pub AgreesWith : Limits → (cacheLength : ℕ) → Past → Call → Result → Type 0
-AgreesWith limits cacheLength past call result =
-    let after = pastAfter limits cacheLength past call result in
-    Agrees (answerTo limits cacheLength past.history call) past.history after.history after.accepted call result
+abbrev pub AgreesWith : Limits → (cache_length : ℕ) → Past → Call → Result → Type 0
+AgreesWith limits cache_length past call result =
+    let after = past_after limits cache_length past call result in
+    Agrees (answer_to limits cache_length past.history call) past.history after.history after.accepted call result
 
 -- So does every call of a list.
-abbrev pub AllAgree : Limits → (cacheLength : ℕ) → List Call → List Result → Type 0
-AllAgree limits cacheLength = Along (AgreesWith limits cacheLength) (pastAfter limits cacheLength) noPast
+abbrev pub AllAgree : Limits → (cache_length : ℕ) → List Call → List Result → Type 0
+AllAgree limits cache_length = Along (AgreesWith limits cache_length) (past_after limits cache_length) no_past
 
 -- Demand 3: for any cache and any list of calls from a fresh record, ignored and refused ones included, each call given the record and the
 -- cache that the last one left.
 abbrev pub Demand3 : Limits → Type 0
-Demand3 limits = (cache : List ℕ) (calls : List Call) → AllAgree limits (length cache) calls (resultsOf limits fresh cache calls)
+Demand3 limits = (cache : List ℕ) (calls : List Call) → AllAgree limits (length cache) calls (results_of limits fresh cache calls)

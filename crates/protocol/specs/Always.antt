@@ -2,9 +2,9 @@
 use Rattle.std.specs.Prelude.{ℕ, ◌≤◌, ◌≡◌, List, [], ◌∷◌, T}
 use Rattle.event.specs.Call.{Call}
 use Rattle.record.specs.Limits.{Limits}
-use Rattle.record.specs.WellFormed.{fresh, wellFormed}
-use Rattle.protocol.specs.Actions.{noActions}
-use Rattle.protocol.specs.Run.{Left, left_of, resultsOf}
+use Rattle.record.specs.WellFormed.{fresh, well_formed}
+use Rattle.protocol.specs.Actions.{no_actions}
+use Rattle.protocol.specs.Run.{Left, left_of, results_of}
 use Rattle.protocol.specs.Step.{Result}
 use Rattle.record.specs.declared.Connection.{Connection}
 
@@ -16,7 +16,7 @@ pub record Reached (limits : Limits) (left : Left) : Type 0 where
 
 -- Every record reached from a fresh one is well formed.
 abbrev pub ReachedWellFormed : Limits → Type 0
-ReachedWellFormed limits = (left : Left) → Reached limits left → T (wellFormed limits left.connection)
+ReachedWellFormed limits = (left : Left) → Reached limits left → T (well_formed limits left.connection)
 
 -- From any record, the number never falls.
 abbrev pub NeverFalls : Limits → Type 0
@@ -24,9 +24,9 @@ NeverFalls limits = (connection : Connection) (cache : List ℕ) (calls : List C
 
 -- A result that leaves record and cache as they were and orders nothing.
 pub record Unmoved (connection : Connection) (cache : List ℕ) (result : Result) : Type 0 where
-  pub same-record : result.outcome.connection ≡ connection
-  pub same-cache : result.cache ≡ cache
-  pub no-orders : result.outcome.actions ≡ noActions
+  pub same_record : result.outcome.connection ≡ connection
+  pub same_cache : result.cache ≡ cache
+  pub no_orders : result.outcome.actions ≡ no_actions
   pub no_part : result.part ≡ []
 
 -- Every result of a list is so.
@@ -38,4 +38,4 @@ AllUnmoved connection cache (result ∷ results) = Unmoved connection cache resu
 abbrev pub LockedStays : Limits → Type 0
 LockedStays limits =
     (connection : Connection) (cache : List ℕ) (calls : List Call) → connection.state ≡ 9
-    → AllUnmoved connection cache (resultsOf limits connection cache calls)
+    → AllUnmoved connection cache (results_of limits connection cache calls)

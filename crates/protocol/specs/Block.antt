@@ -14,5 +14,5 @@ front len bytes = cond (leb len (length bytes)) (take len bytes) []
 -- The part that a sheet names, of the event's payload or of the cache.
 unfoldable pub part_of : Actions → (payload cache : List ℕ) → List ℕ
 part_of actions payload cache =
-    cond (eqb actions.payload_slice order.ofCache) (front actions.payload_len cache)
-    (cond (eqb actions.payload_slice order.ofEvent) (front actions.payload_len payload) [])
+    cond (eqb actions.payload_slice order.of_cache) (front actions.payload_len cache)
+    (cond (eqb actions.payload_slice order.of_event) (front actions.payload_len payload) [])

@@ -1,10 +1,10 @@
 -- Document 01, "The boot run and its neighbours": cases 1 to 12, as one statement over a list of them.
 use Rattle.std.specs.Prelude.{ℕ, ◌≡◌, List, [], ◌∷◌, ℤ, pos, negsuc, get_or, replicate}
-use Rattle.token.specs.Answer.{left, timeLeft}
+use Rattle.token.specs.Answer.{left, time_left}
 use Rattle.event.specs.Call.{Call, call_of}
 use Rattle.record.specs.Limits.{limits}
 use Rattle.protocol.specs.Orders as order
-use Rattle.protocol.specs.Run.{resultsOf}
+use Rattle.protocol.specs.Run.{results_of}
 use Rattle.protocol.specs.Step.{Result, unchanged}
 use Rattle.record.specs.WellFormed.{fresh}
 use Rattle.protocol.specs.declared.Answer.{Answer}
@@ -45,39 +45,39 @@ pub record Told : Type 0 where
   pub answer : Answer
   pub message : ℕ
   pub seconds : ℕ
-  pub verifierSuite : ℕ
-  pub proverSuite : ℕ
+  pub verifier_suite : ℕ
+  pub prover_suite : ℕ
   pub part : List ℕ
 
 -- What a result tells.
-abbrev pub toldOf : Result → Told
-toldOf result = record {
+abbrev pub told_of : Result → Told
+told_of result = record {
   state = result.outcome.connection.state;
   number = result.outcome.connection.handled;
   answer = result.outcome.answer;
   message = result.outcome.actions.message;
   seconds = result.outcome.actions.dat_seconds;
-  verifierSuite = result.outcome.actions.verifier_suite;
-  proverSuite = result.outcome.actions.prover_suite;
+  verifier_suite = result.outcome.actions.verifier_suite;
+  prover_suite = result.outcome.actions.prover_suite;
   part = result.part;
 }
 
 -- The fields in their order.
-abbrev pub told : (state number : ℕ) → Answer → (message seconds verifierSuite proverSuite : ℕ) (part : List ℕ) → Told
-told state number answer message seconds verifierSuite proverSuite part = record {
+abbrev pub told : (state number : ℕ) → Answer → (message seconds verifier_suite prover_suite : ℕ) (part : List ℕ) → Told
+told state number answer message seconds verifier_suite prover_suite part = record {
   state = state;
   number = number;
   answer = answer;
   message = message;
   seconds = seconds;
-  verifierSuite = verifierSuite;
-  proverSuite = proverSuite;
+  verifier_suite = verifier_suite;
+  prover_suite = prover_suite;
   part = part;
 }
 
 -- Where there is no such call.
-abbrev pub noResult : Result
-noResult = record { outcome = unchanged Ignored fresh; cache = []; part = [] }
+abbrev pub no_result : Result
+no_result = record { outcome = unchanged Ignored fresh; cache = []; part = [] }
 
 -- A case: the call at a place of a list of calls, from fresh with a cache of 4,096 zeros; or a token's seconds left.
 pub data Case : Type 0 where
@@ -86,8 +86,8 @@ pub data Case : Type 0 where
 
 -- The case holds of the definitions.
 unfoldable pub Holds : Case → Type 0
-Holds (call calls place t) = toldOf (get_or (resultsOf limits fresh (replicate limits.payload 0) calls) place noResult) ≡ t
-Holds (time expiry now seconds) = timeLeft expiry now 0 ≡ left seconds
+Holds (call calls place t) = told_of (get_or (results_of limits fresh (replicate limits.payload 0) calls) place no_result) ≡ t
+Holds (time expiry now seconds) = time_left expiry now 0 ≡ left seconds
 
 -- So do all of a list.
 unfoldable pub AllHold : List Case → Type 0

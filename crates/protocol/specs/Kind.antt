@@ -2,9 +2,9 @@
 -- A field is read only from the kind that carries it. Payload and suite lists are slices: see `Input`.
 use Rattle.std.specs.Prelude.{ℕ, Bool, false, cond, List, [], ◌∷◌, eqb, ltb, get_or}
 use Rattle.record.specs.Timer.{Timer, H, HP, HV}
-use Rattle.token.specs.Answer.{timeLeft}
-use Rattle.token.specs.Good.{good, goodSeconds}
-use Rattle.token.specs.SecondsLeft.{marginTooLarge}
+use Rattle.token.specs.Answer.{time_left}
+use Rattle.token.specs.Good.{good, good_seconds}
+use Rattle.token.specs.SecondsLeft.{margin_too_large}
 use Rattle.event.specs.declared.Event.{Event}
 use Rattle.event.specs.declared.EventKind.{EventKind}
 use Rattle.event.specs.declared.EventKind.TheVariants.{Plain, Tagged, HandshakeTimeout, Bit, Token}
@@ -38,21 +38,21 @@ pub record Fields : Type 0 where
   pub tag : ℕ
   pub timer : ℕ
   pub bit : ℕ
-  pub isGood : Bool
+  pub is_good : Bool
   pub seconds : ℕ
-  pub largeMargin : Bool
-  pub wrongVerdict : Bool
+  pub large_margin : Bool
+  pub wrong_verdict : Bool
 
 -- The fields in their order.
-abbrev pub fields : (tag timer bit : ℕ) (isGood : Bool) (seconds : ℕ) (largeMargin wrongVerdict : Bool) → Fields
-fields tag timer bit isGood seconds largeMargin wrongVerdict = record {
+abbrev pub fields : (tag timer bit : ℕ) (is_good : Bool) (seconds : ℕ) (large_margin wrong_verdict : Bool) → Fields
+fields tag timer bit is_good seconds large_margin wrong_verdict = record {
   tag = tag;
   timer = timer;
   bit = bit;
-  isGood = isGood;
+  is_good = is_good;
   seconds = seconds;
-  largeMargin = largeMargin;
-  wrongVerdict = wrongVerdict;
+  large_margin = large_margin;
+  wrong_verdict = wrong_verdict;
 }
 
 -- The verdict is a number: 1 is yes, 0 is no.
@@ -66,8 +66,8 @@ fields_of (Tagged tag) = fields tag 0 0 false 0 false false
 fields_of (HandshakeTimeout tag timer) = fields tag timer 0 false 0 false false
 fields_of (Bit bit) = fields 0 0 bit false 0 false false
 fields_of (Token verdict margin expiry now) =
-    let left = (timeLeft expiry now margin).seconds in
-    fields 0 0 0 (good (is_yes verdict) left) (goodSeconds (is_yes verdict) left) (marginTooLarge margin) (ltb 1 verdict)
+    let left = (time_left expiry now margin).seconds in
+    fields 0 0 0 (good (is_yes verdict) left) (good_seconds (is_yes verdict) left) (margin_too_large margin) (ltb 1 verdict)
 
 -- The handshake timer that event 20 names: 0 H, 1 HP, 2 HV.
 abbrev pub named : ℕ → Timer

@@ -58,9 +58,9 @@ abbrev pub cancel : ℕ
 cancel = 2
 
 -- The payload is a part of the event's.
-abbrev pub ofEvent : ℕ
-ofEvent = 1
+abbrev pub of_event : ℕ
+of_event = 1
 
 -- The payload is a part of the cache.
-abbrev pub ofCache : ℕ
-ofCache = 2
+abbrev pub of_cache : ℕ
+of_cache = 2

@@ -3,15 +3,15 @@
 use Rattle.std.specs.Prelude.{ℕ, not, ◌&&◌, List, [], ◌∷◌, ◌++◌, eqb, ltb}
 use Rattle.event.specs.declared.Input.{Input}
 use Rattle.record.specs.Limits.{Limits}
-use Rattle.record.specs.WellFormed.{wellFormed}
+use Rattle.record.specs.WellFormed.{well_formed}
 use Rattle.record.specs.declared.Connection.{Connection}
 use Rattle.table.specs.Table.{ignored}
-use Rattle.protocol.specs.Condition.{nextState}
+use Rattle.protocol.specs.Condition.{next_state}
 use Rattle.protocol.specs.Faults.{Row, row, first_of}
 
 -- The faults of the arguments that are checked first.
-abbrev pub earlyFaults : (code : ℕ) → Input → List Row
-earlyFaults code input =
+abbrev pub early_faults : (code : ℕ) → Input → List Row
+early_faults code input =
     row 1 (ltb 23 code)
     ∷ row 2 (ltb 2 input.timer)
     ∷ row 3 (ltb 1 input.bit)
@@ -21,22 +21,22 @@ earlyFaults code input =
     ∷ []
 
 -- The record is not well formed.
-abbrev pub illFormed : Limits → Connection → Row
-illFormed limits connection = row 7 (not (wellFormed limits connection))
+abbrev pub ill_formed : Limits → Connection → Row
+ill_formed limits connection = row 7 (not (well_formed limits connection))
 
 -- The event would be handled, and the number is the largest.
 abbrev pub exhausted : Limits → Connection → (code : ℕ) → Input → Row
 exhausted limits connection code input =
-    row 8 (not (eqb (nextState connection code input) ignored) && eqb connection.handled limits.handled)
+    row 8 (not (eqb (next_state connection code input) ignored) && eqb connection.handled limits.handled)
 
 -- The faults of the arguments that are checked last.
-abbrev pub lateFaults : Input → List Row
-lateFaults input = row 9 input.margin_too_large ∷ row 41 input.wrong_verdict ∷ []
+abbrev pub late_faults : Input → List Row
+late_faults input = row 9 input.margin_too_large ∷ row 41 input.wrong_verdict ∷ []
 
 -- All faults.
 abbrev pub faults : Limits → Connection → (code : ℕ) → Input → List Row
 faults limits connection code input =
-    earlyFaults code input ++ (illFormed limits connection ∷ exhausted limits connection code input ∷ lateFaults input)
+    early_faults code input ++ (ill_formed limits connection ∷ exhausted limits connection code input ∷ late_faults input)
 
 -- The number of the first that is present, 0 for none.
 unfoldable pub refusal : Limits → Connection → (code : ℕ) → Input → ℕ

@@ -6,11 +6,11 @@ use Rattle.protocol.specs.Step.{Result, result_of}
 use Rattle.record.specs.declared.Connection.{Connection}
 
 -- What the host gets for each call of the list.
-unfoldable pub resultsOf : Limits → Connection → (cache : List ℕ) → List Call → List Result
-resultsOf limits connection cache [] = []
-resultsOf limits connection cache (call ∷ calls) =
+unfoldable pub results_of : Limits → Connection → (cache : List ℕ) → List Call → List Result
+results_of limits connection cache [] = []
+results_of limits connection cache (call ∷ calls) =
     let result = result_of limits connection call cache in
-    result ∷ resultsOf limits result.outcome.connection result.cache calls
+    result ∷ results_of limits result.outcome.connection result.cache calls
 
 -- A record and a cache that a host has after some calls.
 pub record Left : Type 0 where
@@ -18,14 +18,14 @@ pub record Left : Type 0 where
   pub cache : List ℕ
 
 -- Those of a result.
-abbrev pub leftBy : Result → Left
-leftBy result = record { connection = result.outcome.connection; cache = result.cache }
+abbrev pub left_by : Result → Left
+left_by result = record { connection = result.outcome.connection; cache = result.cache }
 
 -- Those of the last result, or the given ones if there is none.
 abbrev pub last_of : Left → List Result → Left
 last_of left [] = left
-last_of left (result ∷ results) = last_of (leftBy result) results
+last_of left (result ∷ results) = last_of (left_by result) results
 
 -- What a list of calls leaves.
 unfoldable pub left_of : Limits → Connection → (cache : List ℕ) → List Call → Left
-left_of limits connection cache calls = last_of (record { connection = connection; cache = cache }) (resultsOf limits connection cache calls)
+left_of limits connection cache calls = last_of (record { connection = connection; cache = cache }) (results_of limits connection cache calls)

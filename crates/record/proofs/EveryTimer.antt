@@ -8,10 +8,10 @@ use Rattle.table.proofs.Finite.{and_left, and_right}
 abbrev pub timers : (Timer → Bool) → Bool
 timers p = p H && (p HP && (p HV && (p DAT && (p Ra && p ACK))))
 
-pub timers-at : (p : Timer → Bool) → T (timers p) → (timer : Timer) → T (p timer)
-timers-at p t H = search and_left
-timers-at p t HP = search (and_left, and_right) depth 16
-timers-at p t HV = search (and_left, and_right) depth 16
-timers-at p t DAT = search (and_left, and_right) depth 16
-timers-at p t Ra = search (and_left, and_right) depth 16
-timers-at p t ACK = search (and_left, and_right) depth 16
+pub timers_at : (p : Timer → Bool) → T (timers p) → (timer : Timer) → T (p timer)
+timers_at p t H = search and_left
+timers_at p t HP = search (and_left, and_right) depth 16
+timers_at p t HV = search (and_left, and_right) depth 16
+timers_at p t DAT = search (and_left, and_right) depth 16
+timers_at p t Ra = search (and_left, and_right) depth 16
+timers_at p t ACK = search (and_left, and_right) depth 16

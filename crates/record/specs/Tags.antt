@@ -1,6 +1,6 @@
 -- Document 01, "The record and its tags": the tags of the timers, and where each runs.
 use Rattle.std.specs.Prelude.{ℕ, Bool, [], ◌∷◌}
-use Rattle.table.specs.Sets.{isIn}
+use Rattle.table.specs.Sets.{is_in}
 use Rattle.record.specs.Timer.{Timer, H, HP, HV, DAT, Ra, ACK}
 use Rattle.record.specs.declared.Connection.{Connection}
 
@@ -14,10 +14,10 @@ tag_of connection Ra = connection.ra
 tag_of connection ACK = connection.ack
 
 -- The states in which a timer runs: its tag is on just there. Ra is off in 5 and 6 by request #102.
-abbrev pub runsIn : Timer → ℕ → Bool
-runsIn H = isIn (1 ∷ 5 ∷ 6 ∷ [])
-runsIn HP = isIn (2 ∷ 3 ∷ 5 ∷ [])
-runsIn HV = isIn (2 ∷ 4 ∷ [])
-runsIn DAT = isIn (2 ∷ 3 ∷ 4 ∷ 7 ∷ 8 ∷ [])
-runsIn Ra = isIn (3 ∷ 7 ∷ 8 ∷ [])
-runsIn ACK = isIn (8 ∷ [])
+abbrev pub runs_in : Timer → ℕ → Bool
+runs_in H = is_in (1 ∷ 5 ∷ 6 ∷ [])
+runs_in HP = is_in (2 ∷ 3 ∷ 5 ∷ [])
+runs_in HV = is_in (2 ∷ 4 ∷ [])
+runs_in DAT = is_in (2 ∷ 3 ∷ 4 ∷ 7 ∷ 8 ∷ [])
+runs_in Ra = is_in (3 ∷ 7 ∷ 8 ∷ [])
+runs_in ACK = is_in (8 ∷ [])

@@ -1,7 +1,7 @@
 // What asks for a fresh attestation or a fresh token, and what brings it: the handled events 3, 13, 14, 17, 21 and 22. What a function
 // doesn't set stays as it is.
 ghost use Rattle.std.specs.Prelude.{◌≡◌, cond};
-ghost use Rattle.effects.specs.ByEvent.{byEvent};
+ghost use Rattle.effects.specs.ByEvent.{by_event};
 
 use effects::{NO_ACTIONS, pick};
 use event::Input;
@@ -16,7 +16,7 @@ pub fn prove_again(
     to: u32,
     number: u32,
 ) -> Outcome
-    ensures { result ≡ byEvent number connection (cond expired 14 17) input to }
+    ensures { result ≡ by_event number connection (cond expired 14 17) input to }
 {
     let mut after = connection;
     after.state = to;
@@ -43,7 +43,7 @@ pub fn verify_again(
     to: u32,
     number: u32,
 ) -> Outcome
-    ensures { result ≡ byEvent number connection (cond asked 3 22) input to }
+    ensures { result ≡ by_event number connection (cond asked 3 22) input to }
 {
     let mut after = connection;
     after.state = to;
@@ -66,7 +66,7 @@ pub fn verify_again(
 
 // DAT_TIMEOUT: the peer has to send a fresh token, and is then verified anew.
 pub fn expire_token(connection: Connection, input: Input, to: u32, number: u32) -> Outcome
-    ensures { result ≡ byEvent number connection 21 input to }
+    ensures { result ≡ by_event number connection 21 input to }
 {
     let mut after = connection;
     after.state = to;
@@ -92,7 +92,7 @@ pub fn expire_token(connection: Connection, input: Input, to: u32, number: u32) 
 
 // A good SC_DAT: the token is current again, and the peer has to prove itself.
 pub fn renew_token(connection: Connection, input: Input, to: u32, number: u32) -> Outcome
-    ensures { result ≡ byEvent number connection 13 input to }
+    ensures { result ≡ by_event number connection 13 input to }
 {
     let mut after = connection;
     after.state = to;

@@ -7,22 +7,22 @@ use native.Mathlib.Numerals.{add-one}
 use native.Mathlib.Omega.{arith}
 use lib.ListN.{length, get_or, take, drop, take-append-drop, length-drop, drop_of_length-le}
 use lib.Seq.{drop-cons, drop-drop, take_all, take-suc}
-use Rattle.suites.specs.Answer.{Found, foundSuite, notFound}
+use Rattle.suites.specs.Answer.{Found, found_suite, not_found}
 use Rattle.suites.specs.Choice.{find}
 
-cond-found : (b : Bool) (suite : ℕ) (f : Found) → (cond b (foundSuite suite) f).found ≡ b || f.found
-cond-found true suite f = refl
-cond-found false suite f = refl
+cond_found : (b : Bool) (suite : ℕ) (f : Found) → (cond b (found_suite suite) f).found ≡ b || f.found
+cond_found true suite f = refl
+cond_found false suite f = refl
 
 -- A list from a place on, as the code takes it.
 abbrev pub from : List ℕ → ℕ → List ℕ
 from list place = take (length list - place) (drop place list)
 
-from-drop : (list : List ℕ) (place : ℕ) → from list place ≡ drop place list
-from-drop list place = take_all (length list - place) (drop place list) (omega (arith, length-drop place list))
+from_drop : (list : List ℕ) (place : ℕ) → from list place ≡ drop place list
+from_drop list place = take_all (length list - place) (drop place list) (omega (arith, length-drop place list))
 
 module _ (passes : ℕ → Bool) where
-  pub here : (list : List ℕ) (i : ℕ) → i < length list → passes (get_or list i 0) ≡ true → find passes (drop i list) ≡ foundSuite (get_or list i 0)
+  pub here : (list : List ℕ) (i : ℕ) → i < length list → passes (get_or list i 0) ≡ true → find passes (drop i list) ≡ found_suite (get_or list i 0)
   unfolding find
   here list i h t = rw (drop-cons list i 0 h, t)
 
@@ -30,14 +30,14 @@ module _ (passes : ℕ → Bool) where
   unfolding find
   later list i h t = rw (add-one, drop-cons list i 0 h, t)
 
-  pub at-end : (list : List ℕ) (i : ℕ) → length list ≤ i → find passes (drop i list) ≡ notFound
+  pub at_end : (list : List ℕ) (i : ℕ) → length list ≤ i → find passes (drop i list) ≡ not_found
   unfolding find
-  at-end list i h = rw (drop_of_length-le list {i = i} h)
+  at_end list i h = rw (drop_of_length-le list {i = i} h)
 
   append : (a b : List ℕ) → (find passes (a ++ b)).found ≡ (find passes a).found || (find passes b).found
   unfolding find
   append [] b = refl
-  append (entry ∷ a) b = simp (cond-found, append a b, or_assoc)
+  append (entry ∷ a) b = simp (cond_found, append a b, or_assoc)
 
   -- Whether one of the first `n` entries passes, as the code tests them.
   abbrev any_of : List ℕ → ℕ → Bool
@@ -47,14 +47,14 @@ module _ (passes : ℕ → Bool) where
   pub any_found : (list : List ℕ) (n : ℕ) → n ≤ length list → any_of list n ≡ (find passes (take n list)).found
   unfolding find
   any_found list zero h = refl
-  any_found list (suc n) h = rw (take-suc list n 0 (omega arith), append, cond-found, or-false, any_found list n (omega arith))
+  any_found list (suc n) h = rw (take-suc list n 0 (omega arith), append, cond_found, or-false, any_found list n (omega arith))
 
-  pub rest-found : (list : List ℕ) (i place : ℕ) → i ≡ place → (find passes (drop i list)).found ≡ (find passes (from list place)).found
-  rest-found list i place e = rw (from-drop, e)
+  pub rest_found : (list : List ℕ) (i place : ℕ) → i ≡ place → (find passes (drop i list)).found ≡ (find passes (from list place)).found
+  rest_found list i place e = rw (from_drop, e)
 
   module _ (list : List ℕ) (place n : ℕ) where
     split : (find passes (drop place list)).found ≡ (find passes (take n (from list place))).found || (find passes (drop (place + n) list)).found
-    split = rw (from-drop, ← drop-drop n place list, ← append, take-append-drop)
+    split = rw (from_drop, ← drop-drop n place list, ← append, take-append-drop)
 
     pub among : (find passes (take n (from list place))).found ≡ true → (find passes (drop place list)).found ≡ true
     among t = rw (split, t)

@@ -7,12 +7,12 @@ pub record Found : Type 0 where
   pub suite : ℕ
 
 -- A suite that was found.
-abbrev pub foundSuite : ℕ → Found
-foundSuite number = record { found = true; suite = number }
+abbrev pub found_suite : ℕ → Found
+found_suite number = record { found = true; suite = number }
 
 -- None was found: 0 for its number.
-abbrev pub notFound : Found
-notFound = record { found = false; suite = 0 }
+abbrev pub not_found : Found
+not_found = record { found = false; suite = 0 }
 
 -- A refusal's number, 0 for none, and both suites.
 pub record Answer : Type 0 where
@@ -22,7 +22,7 @@ pub record Answer : Type 0 where
 
 -- Refusal 6, with both suites 0.
 abbrev pub refused : Answer
-refused = record { refusal = 6; verifier = notFound; prover = notFound }
+refused = record { refusal = 6; verifier = not_found; prover = not_found }
 
 -- No refusal, with what was found for each.
 abbrev pub chosen : Found → Found → Answer

@@ -1,7 +1,7 @@
 // The choice of attestation suites, made once when a connection opens.
 ghost use Rattle.std.specs.Prelude.{◌≡◌, true, ◌≤◌, length, take, drop};
-ghost use Rattle.suites.specs.Choice.{find, foundIn, firstFound, anyTooLong, choice};
-ghost use Rattle.suites.specs.Numbers.{foundOf, answer_of};
+ghost use Rattle.suites.specs.Choice.{find, found_in, first_found, any_too_long, choice};
+ghost use Rattle.suites.specs.Numbers.{found_of, answer_of};
 
 const MAX_ENTRIES: usize = 16;
 
@@ -40,7 +40,7 @@ pub fn choose(
 
 // Whether a suite was found.
 pub fn is_found(common: Common) -> bool
-    ensures { result ≡ (foundOf common).found }
+    ensures { result ≡ (found_of common).found }
 {
     let Common::Suite(_) = common else {
         return false;
@@ -50,7 +50,7 @@ pub fn is_found(common: Common) -> bool
 
 // Its number, 0 if none was found.
 pub fn number_in(common: Common) -> u32
-    ensures { result ≡ (foundOf common).suite }
+    ensures { result ≡ (found_of common).suite }
 {
     let Common::Suite(number) = common else {
         return 0;
@@ -65,7 +65,7 @@ pub fn any_too_long(
     peer_verifiers: &[u32],
     our_provers: &[u32],
 ) -> bool
-    ensures { result ≡ anyTooLong our_verifiers.now peer_provers.now peer_verifiers.now our_provers.now }
+    ensures { result ≡ any_too_long our_verifiers.now peer_provers.now peer_verifiers.now our_provers.now }
 {
     (our_verifiers.len() > MAX_ENTRIES)
         | (peer_provers.len() > MAX_ENTRIES)
@@ -75,7 +75,7 @@ pub fn any_too_long(
 
 // The suite at a place of a list, if the list is so long: the first entry from that place on.
 fn suite_at(list: &[u32], place: usize) -> Common
-    ensures { foundOf result ≡ find (λ _. true) (drop place list.now) }
+    ensures { found_of result ≡ find (λ _. true) (drop place list.now) }
 {
     if place < list.len() {
         Common::Suite(list[place])
@@ -87,7 +87,7 @@ fn suite_at(list: &[u32], place: usize) -> Common
 // The place of the first entry of `verifiers` found anywhere in `provers`, or the number of verifiers if none is found.
 // A suite is compared with the provers in groups of eight, and with those behind the last group one by one.
 fn first_common(verifiers: &[u32], provers: &[u32]) -> usize
-    ensures { find (λ _. true) (drop result verifiers.now) ≡ firstFound verifiers.now provers.now }
+    ensures { find (λ _. true) (drop result verifiers.now) ≡ first_found verifiers.now provers.now }
 {
     let groups = provers.len() / 8;
     let mut i = 0;
@@ -113,7 +113,7 @@ fn first_common(verifiers: &[u32], provers: &[u32]) -> usize
 // the compiler makes vector instructions where it can.
 fn in_first_eight(suite: u32, list: &[u32]) -> bool
     requires { 8 ≤ length list.now }
-    ensures { result ≡ foundIn (take 8 list.now) suite }
+    ensures { result ≡ found_in (take 8 list.now) suite }
 {
     (suite == list[0])
         | (suite == list[1])

@@ -9,7 +9,7 @@ use native.Mathlib.Omega.{arith}
 use lib.Dec.{T, eqb, eqb→eq, leb, leb→le}
 use lib.ListN.{length, get_or, get_or-eq_default}
 use Rattle.table.proofs.Finite.{and_left, and_right}
-use Rattle.table.specs.Table.{row, whenHeld, whenNot, cell}
+use Rattle.table.specs.Table.{row, when_held, when_not, cell}
 
 -- The cells of a state where the condition holds.
 abbrev pub held : (state code : ℕ) → ℕ
@@ -17,14 +17,14 @@ held state code = cell state code true
 
 pub no_code : (state k : ℕ) → 24 ≤ k → 11 ≡ held state k
 unfolding cell
-no_code state k h = rw (get_or-eq_default whenHeld [] h)
+no_code state k h = rw (get_or-eq_default when_held [] h)
 
 -- A row has ten states.
-pub no-state : (code : ℕ) (b : Bool) → T (leb (length (cond b (get_or whenHeld code []) (whenNot code))) 10) → (s : ℕ) → 10 ≤ s → 11 ≡ cell s code b
+pub no_state : (code : ℕ) (b : Bool) → T (leb (length (cond b (get_or when_held code []) (when_not code))) 10) → (s : ℕ) → 10 ≤ s → 11 ≡ cell s code b
 unfolding cell
-no-state code b t s h =
-    let l = leb→le (length (cond b (get_or whenHeld code []) (whenNot code))) 10 t in
-    sym (get_or-eq_default (cond b (get_or whenHeld code []) (whenNot code)) 11 (omega arith))
+no_state code b t s h =
+    let l = leb→le (length (cond b (get_or when_held code []) (when_not code))) 10 t in
+    sym (get_or-eq_default (cond b (get_or when_held code []) (when_not code)) 11 (omega arith))
 
 -- A row of ten states whose last is ignored.
 abbrev ends : List ℕ → Bool
@@ -48,4 +48,4 @@ by_row row t s h (no e) =
 -- State 9 ignores every event.
 pub locked : (s code : ℕ) → 9 ≤ s → 11 ≡ held s code
 unfolding cell
-locked s code h = by_row (get_or whenHeld code []) (at_row whenHeld tt code) s h (ℕ_discrete s 9)
+locked s code h = by_row (get_or when_held code []) (at_row when_held tt code) s h (ℕ_discrete s 9)

@@ -38,22 +38,22 @@ abbrev pub below : ℕ → (ℕ → Bool) → Bool
 below zero p = true
 below (suc n) p = p n && below n p
 
-here-or-below : (n : ℕ) (p : ℕ → Bool) (k : ℕ) → T (p n) → Dec (k ≡ n) → ((k ≡ n → ⊥) → T (p k)) → T (p k)
-here-or-below n p k t (yes e) f = subst (λ (m : ℕ). T (p m)) (sym e) t
-here-or-below n p k t (no e) f = f e
+here_or_below : (n : ℕ) (p : ℕ → Bool) (k : ℕ) → T (p n) → Dec (k ≡ n) → ((k ≡ n → ⊥) → T (p k)) → T (p k)
+here_or_below n p k t (yes e) f = subst (λ (m : ℕ). T (p m)) (sym e) t
+here_or_below n p k t (no e) f = f e
 
 pub below_at : (n : ℕ) (p : ℕ → Bool) → T (below n p) → (k : ℕ) → k < n → T (p k)
 below_at zero p t k h = absurd (omega arith)
 below_at (suc n) p t k h =
-    here-or-below n p k (and_left (p n) (below n p) t) (ℕ_discrete k n)
+    here_or_below n p k (and_left (p n) (below n p) t) (ℕ_discrete k n)
     (λ e. below_at n p (and_right (p n) (below n p) t) k (omega arith))
 
 abbrev pub either : (Bool → Bool) → Bool
 either p = p true && p false
 
-pub either-at : (p : Bool → Bool) → T (either p) → (b : Bool) → T (p b)
-either-at p t true = and_left (p true) (p false) t
-either-at p t false = and_right (p true) (p false) t
+pub either_at : (p : Bool → Bool) → T (either p) → (b : Bool) → T (p b)
+either_at p t true = and_left (p true) (p false) t
+either_at p t false = and_right (p true) (p false) t
 
 -- A test of every state and code, with either flag and with the condition held or not.
 abbrev pub cells : ((s k flag : ℕ) → Bool → Bool) → Bool
@@ -61,7 +61,7 @@ cells p = below 10 (λ s. below 24 (λ k. below 2 (λ flag. either (p s k flag))
 
 pub cells_at : (p : (s k flag : ℕ) → Bool → Bool) → T (cells p) → (s k flag : ℕ) (b : Bool) → s ≤ 9 → k < 24 → flag ≤ 1 → T (p s k flag b)
 cells_at p t s k flag b hs hk hf =
-    either-at (p s k flag)
+    either_at (p s k flag)
     (below_at 2 (λ f. either (p s k f))
     (below_at 24 (λ j. below 2 (λ f. either (p s j f)))
     (below_at 10 (λ i. below 24 (λ j. below 2 (λ f. either (p i j f)))) t s (omega arith)) k hk) flag (omega arith)) b

@@ -2,7 +2,7 @@
 use Rattle.std.specs.Prelude.{ℕ, Bool, false, ◌||◌, List, [], ◌∷◌, eqb}
 
 -- Whether a number is one of a list.
-abbrev pub isIn : List ℕ → ℕ → Bool
-isIn [] n = false
-isIn (x ∷ []) n = eqb n x
-isIn (x ∷ (y ∷ others)) n = eqb n x || isIn (y ∷ others) n
+abbrev pub is_in : List ℕ → ℕ → Bool
+is_in [] n = false
+is_in (x ∷ []) n = eqb n x
+is_in (x ∷ (y ∷ others)) n = eqb n x || is_in (y ∷ others) n

@@ -16,8 +16,8 @@ abbrev pub row : ℕ → ℕ → ℕ → ℕ → ℕ → ℕ → ℕ → ℕ →
 row a b c d e f g h i j = a ∷ b ∷ c ∷ d ∷ e ∷ f ∷ g ∷ h ∷ i ∷ j ∷ []
 
 -- The cells where the condition holds, a row for each code from 0 to 23.
-abbrev pub whenHeld : List (List ℕ)
-whenHeld =
+abbrev pub when_held : List (List ℕ)
+when_held =
     --    00 01 02 03 04 05 06 07 08 09
     row 01 11 11 11 11 11 11 11 11 11  -- 0 UPPER_START_HANDSHAKE
     ∷ row 11 09 09 09 09 09 09 09 09 11  -- 1 UPPER_CLOSE
@@ -46,14 +46,14 @@ whenHeld =
     ∷ []
 
 -- The cells where it does not: a hello that fails and a bad token lock, all else is ignored.
-abbrev pub whenNot : ℕ → List ℕ
-whenNot code =
+abbrev pub when_not : ℕ → List ℕ
+when_not code =
     cond (eqb code 11) (row 11 09 11 11 11 11 11 11 11 11)
     (cond (eqb code 13) (row 11 11 11 11 11 09 09 11 11 11) [])
 
 -- The cell of a state and a code. In a state or at a code that the table doesn't have, an event is ignored.
 unfoldable pub cell : ℕ → ℕ → Bool → ℕ
-cell state code held = get_or (cond held (get_or whenHeld code []) (whenNot code)) state ignored
+cell state code held = get_or (cond held (get_or when_held code []) (when_not code)) state ignored
 
 -- The 7/8 branch, decided by the ack flag.
 abbrev pub settled : ℕ → ℕ → ℕ

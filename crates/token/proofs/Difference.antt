@@ -47,14 +47,14 @@ module _ {x y : ℤ} {a b c d : ℕ} (p : Diff x a b) (q : Diff y c d) where
   pub less : lt_z x y ≡ true → a + d < c + b
   less h = ltb-true (a + d) (c + b) (sym (test p q) ∙ h)
 
-  pub not-less : lt_z x y ≡ false → c + b ≤ a + d
-  not-less h = ltb-false (a + d) (c + b) (sym (test p q) ∙ h)
+  pub not_less : lt_z x y ≡ false → c + b ≤ a + d
+  not_less h = ltb-false (a + d) (c + b) (sym (test p q) ∙ h)
 
-  pub is-less : a + d < c + b → lt_z x y ≡ true
-  is-less h = test p q ∙ lt-ltb (a + d) (c + b) h
+  pub is_less : a + d < c + b → lt_z x y ≡ true
+  is_less h = test p q ∙ lt-ltb (a + d) (c + b) h
 
-  pub is-not-less : c + b ≤ a + d → lt_z x y ≡ false
-  is-not-less h = test p q ∙ le-ltb (a + d) (c + b) h
+  pub is_not_less : c + b ≤ a + d → lt_z x y ≡ false
+  is_not_less h = test p q ∙ le-ltb (a + d) (c + b) h
 
 -- The difference that the integers' sum forms of two signs.
 apart : (t : Bool) (n m a b : ℕ) → ltb n m ≡ t → n + b ≡ a + m → Diff (cond t (negsuc (m - suc n)) (pos (n - m))) a b

@@ -7,12 +7,12 @@ use Rattle.token.specs.Numbers.{answer_of}
 use Rattle.token.specs.declared.TimeLeft.{TimeLeft}
 use Rattle.token.specs.declared.TimeLeft.TheVariants.{Seconds, MarginTooLarge}
 
-abbrev timeFrom : Answer → TimeLeft
-timeFrom a = cond (eqb a.refusal 0) (Seconds a.seconds) MarginTooLarge
+abbrev time_from : Answer → TimeLeft
+time_from a = cond (eqb a.refusal 0) (Seconds a.seconds) MarginTooLarge
 
-time-back : (t : TimeLeft) → timeFrom (answer_of t) ≡ t
-time-back (Seconds seconds) = refl
-time-back MarginTooLarge = refl
+time_back : (t : TimeLeft) → time_from (answer_of t) ≡ t
+time_back (Seconds seconds) = refl
+time_back MarginTooLarge = refl
 
 pub same_numbers : (a b : TimeLeft) → answer_of a ≡ answer_of b → a ≡ b
-same_numbers a b same = sym (time-back a) ∙ ap timeFrom same ∙ time-back b
+same_numbers a b same = sym (time_back a) ∙ ap time_from same ∙ time_back b

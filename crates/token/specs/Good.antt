@@ -7,5 +7,5 @@ abbrev pub good : Bool → ℤ → Bool
 good verdict left = verdict && le_z (pos 1) left
 
 -- The DAT timer's length: the seconds left of a good token, 0 for a bad one.
-abbrev pub goodSeconds : Bool → ℤ → ℕ
-goodSeconds verdict left = cond (good verdict left) (nat_abs left) 0
+abbrev pub good_seconds : Bool → ℤ → ℕ
+good_seconds verdict left = cond (good verdict left) (nat_abs left) 0

@@ -11,9 +11,9 @@ abbrev pub clamped : ℤ → ℤ
 clamped z = cond (lt_z z (neg_ℤ day)) (neg_ℤ day) (cond (lt_z day z) day z)
 
 -- Seconds left: expiry minus now minus the margin, worked out exactly and then clamped.
-unfoldable pub secondsLeft : (expiry now : ℤ) (margin : ℕ) → ℤ
-secondsLeft expiry now margin = clamped ((expiry -ℤ now) -ℤ pos margin)
+unfoldable pub seconds_left : (expiry now : ℤ) (margin : ℕ) → ℤ
+seconds_left expiry now margin = clamped ((expiry -ℤ now) -ℤ pos margin)
 
 -- The fault of refusal 9: the margin is above 300.
-abbrev pub marginTooLarge : ℕ → Bool
-marginTooLarge margin = ltb 300 margin
+abbrev pub margin_too_large : ℕ → Bool
+margin_too_large margin = ltb 300 margin

@@ -2,10 +2,10 @@
 //
 // Checking the token's signature is the host's work; its verdict is an argument here.
 ghost use Rattle.std.specs.Prelude.{◌≡◌};
-ghost use Rattle.token.specs.Answer.{timeLeft};
-ghost use Rattle.token.specs.Good.{goodSeconds};
+ghost use Rattle.token.specs.Answer.{time_left};
+ghost use Rattle.token.specs.Good.{good_seconds};
 ghost use Rattle.token.specs.Numbers.{answer_of};
-ghost use Rattle.token.specs.SecondsLeft.{marginTooLarge};
+ghost use Rattle.token.specs.SecondsLeft.{margin_too_large};
 
 const DAY: i64 = 86_400;
 
@@ -23,7 +23,7 @@ pub enum TimeLeft {
 
 // Whether a margin is above 300, which is the fault of refusal 9.
 pub fn margin_too_large(margin: u32) -> bool
-    ensures { result ≡ marginTooLarge margin }
+    ensures { result ≡ margin_too_large margin }
 {
     margin > MAX_MARGIN
 }
@@ -32,7 +32,7 @@ pub fn margin_too_large(margin: u32) -> bool
 // both bounds raised by the margin, which is taken last; comparing `now` first with expiry less a bound keeps the
 // subtraction within 64 bits.
 pub fn seconds_left(expiry: i64, now: i64, margin: u32) -> TimeLeft
-    ensures { answer_of result ≡ timeLeft expiry now margin }
+    ensures { answer_of result ≡ time_left expiry now margin }
 {
     if margin_too_large(margin) {
         return TimeLeft::MarginTooLarge;
@@ -60,7 +60,7 @@ pub fn seconds_left(expiry: i64, now: i64, margin: u32) -> TimeLeft
 
 // The seconds left of a good token, which are the DAT timer's length; 0 for a bad one, and where the margin is refused.
 pub fn good_seconds(verdict: bool, expiry: i64, now: i64, margin: u32) -> u32
-    ensures { result ≡ goodSeconds verdict (timeLeft expiry now margin).seconds }
+    ensures { result ≡ good_seconds verdict (time_left expiry now margin).seconds }
 {
     let TimeLeft::Seconds(left) = seconds_left(expiry, now, margin) else {
         return 0;

@@ -2,7 +2,7 @@
 // doesn't set stays as it is.
 ghost use Rattle.std.specs.Prelude.{◌≡◌};
 ghost use Rattle.protocol.specs.Advance.{flipped};
-ghost use Rattle.effects.specs.ByEvent.{byEvent};
+ghost use Rattle.effects.specs.ByEvent.{by_event};
 
 use effects::{NO_ACTIONS, pick};
 use event::Input;
@@ -18,7 +18,7 @@ fn flip(bit: u32) -> u32
 
 // UPPER_SEND_DATA: the block is cached and sent.
 pub fn send_data(connection: Connection, input: Input, to: u32, number: u32) -> Outcome
-    ensures { result ≡ byEvent number connection 2 input to }
+    ensures { result ≡ by_event number connection 2 input to }
 {
     let mut after = connection;
     after.state = to;
@@ -41,7 +41,7 @@ pub fn send_data(connection: Connection, input: Input, to: u32, number: u32) -> 
 
 // SC_DATA with the expected bit: the block is acknowledged and goes up.
 pub fn receive_data(connection: Connection, input: Input, to: u32, number: u32) -> Outcome
-    ensures { result ≡ byEvent number connection 18 input to }
+    ensures { result ≡ by_event number connection 18 input to }
 {
     let mut after = connection;
     after.state = to;
@@ -62,7 +62,7 @@ pub fn receive_data(connection: Connection, input: Input, to: u32, number: u32) 
 
 // SC_ACK of the waiting block.
 pub fn receive_ack(connection: Connection, input: Input, to: u32, number: u32) -> Outcome
-    ensures { result ≡ byEvent number connection 19 input to }
+    ensures { result ≡ by_event number connection 19 input to }
 {
     let mut after = connection;
     after.state = to;
@@ -82,7 +82,7 @@ pub fn receive_ack(connection: Connection, input: Input, to: u32, number: u32) -
 
 // ACK_TIMEOUT: the cached block is sent again.
 pub fn repeat_data(connection: Connection, input: Input, to: u32, number: u32) -> Outcome
-    ensures { result ≡ byEvent number connection 23 input to }
+    ensures { result ≡ by_event number connection 23 input to }
 {
     let mut after = connection;
     after.state = to;

@@ -1,6 +1,6 @@
 // What number, flag, bits and tags of a well-formed record are in each state.
 ghost use Rattle.std.specs.Prelude.{◌≡◌, T, leb};
-ghost use Rattle.record.specs.WellFormed.{fitsState};
+ghost use Rattle.record.specs.WellFormed.{fits_state};
 
 use record::Connection;
 use table::states;
@@ -8,7 +8,7 @@ use table::states;
 // Whether number, flag, bits and tags are those of the state.
 pub(crate) fn fits_state(c: Connection) -> bool
     requires { T (leb c.state 9) }
-    ensures { result ≡ fitsState c.state c }
+    ensures { result ≡ fits_state c.state c }
 {
     let state = c.state;
     match state {
@@ -26,7 +26,7 @@ pub(crate) fn fits_state(c: Connection) -> bool
 }
 
 fn fits_closed_unlocked(c: Connection) -> bool
-    ensures { result ≡ fitsState 0 c }
+    ensures { result ≡ fits_state 0 c }
 {
     (c.handled == 0)
         & ((c.next_send_bit == 0) & (c.expected_bit == 0))
@@ -40,7 +40,7 @@ fn fits_closed_unlocked(c: Connection) -> bool
 }
 
 fn fits_wait_for_hello(c: Connection) -> bool
-    ensures { result ≡ fitsState 1 c }
+    ensures { result ≡ fits_state 1 c }
 {
     ((c.next_send_bit == 0) & (c.expected_bit == 0))
         & (c.awaiting_ack == 0)
@@ -53,37 +53,37 @@ fn fits_wait_for_hello(c: Connection) -> bool
 }
 
 fn fits_wait_for_ra(c: Connection) -> bool
-    ensures { result ≡ fitsState 2 c }
+    ensures { result ≡ fits_state 2 c }
 {
     (c.h == 0) & (c.prover != 0) & (c.verifier != 0) & (c.dat != 0) & (c.ra == 0) & (c.ack == 0)
 }
 
 fn fits_wait_for_ra_prover(c: Connection) -> bool
-    ensures { result ≡ fitsState 3 c }
+    ensures { result ≡ fits_state 3 c }
 {
     (c.h == 0) & (c.prover != 0) & (c.verifier == 0) & (c.dat != 0) & (c.ra != 0) & (c.ack == 0)
 }
 
 fn fits_wait_for_ra_verifier(c: Connection) -> bool
-    ensures { result ≡ fitsState 4 c }
+    ensures { result ≡ fits_state 4 c }
 {
     (c.h == 0) & (c.prover == 0) & (c.verifier != 0) & (c.dat != 0) & (c.ra == 0) & (c.ack == 0)
 }
 
 fn fits_wait_for_dat_and_ra(c: Connection) -> bool
-    ensures { result ≡ fitsState 5 c }
+    ensures { result ≡ fits_state 5 c }
 {
     (c.h != 0) & (c.prover != 0) & (c.verifier == 0) & (c.dat == 0) & (c.ra == 0) & (c.ack == 0)
 }
 
 fn fits_wait_for_dat_and_ra_verifier(c: Connection) -> bool
-    ensures { result ≡ fitsState 6 c }
+    ensures { result ≡ fits_state 6 c }
 {
     (c.h != 0) & (c.prover == 0) & (c.verifier == 0) & (c.dat == 0) & (c.ra == 0) & (c.ack == 0)
 }
 
 fn fits_established(c: Connection) -> bool
-    ensures { result ≡ fitsState 7 c }
+    ensures { result ≡ fits_state 7 c }
 {
     (c.awaiting_ack == 0)
         & (c.h == 0)
@@ -95,7 +95,7 @@ fn fits_established(c: Connection) -> bool
 }
 
 fn fits_wait_for_ack(c: Connection) -> bool
-    ensures { result ≡ fitsState 8 c }
+    ensures { result ≡ fits_state 8 c }
 {
     (c.awaiting_ack == 1)
         & (c.h == 0)
@@ -107,7 +107,7 @@ fn fits_wait_for_ack(c: Connection) -> bool
 }
 
 fn fits_closed_locked(c: Connection) -> bool
-    ensures { result ≡ fitsState 9 c }
+    ensures { result ≡ fits_state 9 c }
 {
     ((c.next_send_bit == 0) & (c.expected_bit == 0))
         & (c.awaiting_ack == 0)

@@ -15,7 +15,7 @@ const MAX_CACHED: u32 = 4096;
 
 // Whether a record is well formed.
 pub fn well_formed(connection: Connection) -> bool
-    ensures { result ≡ spec.wellFormed limits connection }
+    ensures { result ≡ spec.well_formed limits connection }
 {
     if !(fields_fit(connection) & tags_at_most(connection.handled, connection)) {
         return false;
@@ -25,7 +25,7 @@ pub fn well_formed(connection: Connection) -> bool
 
 // The ranges of state, flag, bits and length, and no length without the flag.
 fn fields_fit(c: Connection) -> bool
-    ensures { result ≡ spec.fieldsFit limits c }
+    ensures { result ≡ spec.fields_fit limits c }
 {
     (c.state <= states::CLOSED_LOCKED)
         & (c.awaiting_ack <= 1)
@@ -37,7 +37,7 @@ fn fields_fit(c: Connection) -> bool
 
 // No tag above the number.
 fn tags_at_most(number: u32, c: Connection) -> bool
-    ensures { result ≡ spec.tagsAtMost number c }
+    ensures { result ≡ spec.tags_at_most number c }
 {
     (c.h <= number)
         & (c.prover <= number)

@@ -8,8 +8,8 @@ use native.Mathlib.Omega.{arith}
 use borrow.Author.Tests.{lt-ltb, le-ltb, ltb-false}
 use lib.Dec.{ltb}
 use lib.ListN.{length, drop, length-drop}
-use Rattle.wire.specs.Varint.{Said, says, cut, endless, below, said, Number, value, fault, numberFrom, number_at}
-use Rattle.wire.specs.Layout.{places, partsFrom, Block, block, faulty, bounded, blockAt}
+use Rattle.wire.specs.Varint.{Said, says, cut, endless, below, said, Number, value, fault, number_from, number_at}
+use Rattle.wire.specs.Layout.{places, parts_from, Block, block, faulty, bounded, block_at}
 
 -- The bytes of the part before are passed over at once.
 pass : (after : ℕ → ℕ) (place next left : ℕ) → place ≤ next → places after place next left ≡ places after next next (left - (next - place))
@@ -30,13 +30,13 @@ pass after place next (suc left) h = by_place (ℕ_discrete place next) (λ k. p
         rw (d, lt-ltb place next (omega (arith, e))) (ih (omega (arith, e)))
 
 module _ (message : List ℕ) (after : ℕ → ℕ) (start : ℕ) where
-  pub at-end : length message ≤ start → partsFrom message after start ≡ []
+  pub at_end : length message ≤ start → parts_from message after start ≡ []
   unfolding places
-  at-end h =
+  at_end h =
       let e : length message - start ≡ 0 = omega arith in
       rw (e)
 
-  pub one_more : start < length message → start < after start → partsFrom message after start ≡ start ∷ partsFrom message after (after start)
+  pub one_more : start < length message → start < after start → parts_from message after start ≡ start ∷ parts_from message after (after start)
   unfolding places
   one_more h k =
       let e : length message - start ≡ suc (length message - suc start) = omega arith in
@@ -98,7 +98,7 @@ stands message place =
     by_size number width true f = λ h. (omega arith, omega arith, omega (arith, f.0, f.1))
     by_size number width false f = (omega (arith, f.0), omega (arith, f.0, f.1))
 
-    by_said : (s : Said) → Fits (length message - place) s → There (length message - place) s → Stands message place (numberFrom place s)
+    by_said : (s : Said) → Fits (length message - place) s → There (length message - place) s → Stands message place (number_from place s)
     by_said (says number width) f u = by_size number width (ltb 4294967295 number) f
     by_said cut f u = λ h. (omega arith, omega arith, omega arith)
     by_said endless f u = λ h. (omega arith, omega arith, omega (arith, u))
@@ -109,10 +109,10 @@ module _ (message : List ℕ) (place number next : ℕ) (e : number_at message p
   after_read = subst (Stands message place) e (stands message place)
 
   -- A part of so many bytes.
-  pub runs_past : length message - next < number → faulty 21 ≡ blockAt message place
+  pub runs_past : length message - next < number → faulty 21 ≡ block_at message place
   runs_past h = rw (e, lt-ltb (length message) (next + number) (omega (arith, after_read.1)))
 
-  pub within : number ≤ length message - next → block next number ≡ blockAt message place
+  pub within : number ≤ length message - next → block next number ≡ block_at message place
   within h = rw (e, le-ltb (length message) (next + number) (omega (arith, after_read.1)))
 
 -- A part that was found lies in the message, behind its length.
@@ -121,8 +121,8 @@ BlockStands message place (block start size) = (place < start) × (start + size 
 BlockStands message place (faulty refusal) =
     place ≤ length message → (21 ≤ refusal) × (refusal ≤ 25) × (32 * place + refusal ≤ 32 * length message + 21)
 
-pub block-stands : (message : List ℕ) (place : ℕ) → BlockStands message place (blockAt message place)
-block-stands message place = by_number (number_at message place) (stands message place)
+pub block_stands : (message : List ℕ) (place : ℕ) → BlockStands message place (block_at message place)
+block_stands message place = by_number (number_at message place) (stands message place)
   where
     by_size : (size start : ℕ) (t : Bool) → ltb (length message) (start + size) ≡ t → (place < start) × (start ≤ length message) →
         BlockStands message place (cond t (faulty 21) (block start size))
@@ -133,5 +133,5 @@ block-stands message place = by_number (number_at message place) (stands message
     by_number (value size start) s = by_size size start (ltb (length message) (start + size)) refl s
     by_number (fault refusal) s = s
 
-pub block_within : (message : List ℕ) (place start size : ℕ) → blockAt message place ≡ block start size → (place < start) × (start + size ≤ length message)
-block_within message place start size e = subst (BlockStands message place) e (block-stands message place)
+pub block_within : (message : List ℕ) (place start size : ℕ) → block_at message place ≡ block start size → (place < start) × (start + size ≤ length message)
+block_within message place start size e = subst (BlockStands message place) e (block_stands message place)

@@ -10,7 +10,7 @@ use borrow.Author.Tests.{lt-ltb, le-ltb}
 use lib.Dec.{ltb}
 use lib.ListN.{length, get_or, take, drop, length-drop, drop_of_length-le}
 use lib.Seq.{take_all, drop-cons}
-use Rattle.wire.specs.Varint.{Said, says, cut, endless, below, said, value, fault, numberFrom, number_at}
+use Rattle.wire.specs.Varint.{Said, says, cut, endless, below, said, value, fault, number_from, number_at}
 use Rattle.wire.specs.Bytes.{behind}
 
 -- Nothing has been read.
@@ -60,17 +60,17 @@ product scale b h = rw (mul_comm scale b) (mul-le-mul {n₁ = b} {m₁ = scale} 
 
 -- The tenth byte: with any bit set the number is too large.
 module _ (bytes : List ℕ) (place low : ℕ) (h : 9 < length bytes) where
-  pub tenth-large : 0 < get_or bytes 9 0 → fault 24 ≡ numberFrom place (behind low 9223372036854775808 9 (said 1 (drop 9 bytes)))
+  pub tenth_large : 0 < get_or bytes 9 0 → fault 24 ≡ number_from place (behind low 9223372036854775808 9 (said 1 (drop 9 bytes)))
   unfolding said
-  tenth-large k = rw (drop-cons bytes 9 0 h) (by_size (get_or bytes 9 0) k (ltb (get_or bytes 9 0) 128))
+  tenth_large k = rw (drop-cons bytes 9 0 h) (by_size (get_or bytes 9 0) k (ltb (get_or bytes 9 0) 128))
     where
-      by_size : (b : ℕ) → 0 < b → (t : Bool) → fault 24 ≡ numberFrom place (behind low 9223372036854775808 9 (cond t (says b 1) (below (b - 128) endless)))
+      by_size : (b : ℕ) → 0 < b → (t : Bool) → fault 24 ≡ number_from place (behind low 9223372036854775808 9 (cond t (says b 1) (below (b - 128) endless)))
       by_size b k true = rw (lt-ltb 4294967295 (low + 9223372036854775808 * b) (omega arith))
       by_size b k false = refl
 
-  pub tenth-zero : get_or bytes 9 0 ≤ 0 →
-      cond (ltb 4294967295 low) (fault 24) (value low (place + 10)) ≡ numberFrom place (behind low 9223372036854775808 9 (said 1 (drop 9 bytes)))
-  tenth-zero k =
+  pub tenth_zero : get_or bytes 9 0 ≤ 0 →
+      cond (ltb 4294967295 low) (fault 24) (value low (place + 10)) ≡ number_from place (behind low 9223372036854775808 9 (said 1 (drop 9 bytes)))
+  tenth_zero k =
       let z : get_or bytes 9 0 ≡ 0 = omega arith in
       rw (last bytes low 9223372036854775808 9 h 1 (omega arith) (omega arith), z, mul-zero, add-zero)
 
@@ -79,9 +79,9 @@ pub from_place : (bytes : List ℕ) (place : ℕ) → take (length bytes - place
 from_place bytes place = take_all (length bytes - place) (drop place bytes) (omega (arith, length-drop place bytes))
 
 -- A number of no byte, of one and of two.
-pub none-there : (bytes : List ℕ) (place : ℕ) → length bytes ≤ place → fault 21 ≡ number_at bytes place
+pub none_there : (bytes : List ℕ) (place : ℕ) → length bytes ≤ place → fault 21 ≡ number_at bytes place
 unfolding number_at said
-none-there bytes place h = rw (drop_of_length-le bytes {i = place} h)
+none_there bytes place h = rw (drop_of_length-le bytes {i = place} h)
 
 module _ (bytes : List ℕ) (place first : ℕ) (h : place < length bytes) (e : first ≡ get_or bytes place 0) where
   pub one_byte : first < 128 → value first (place + 1) ≡ number_at bytes place

@@ -2,9 +2,9 @@
 -- this file.
 use Rattle.std.specs.Prelude.{◌≡◌, ℕ, ◌+◌, ◌-◌, ◌*◌, ◌^◌, List, length, drop}
 use Rattle.wire.specs.Varint.{Said, says, cut, endless, said}
-use Rattle.wire.specs.Layout.{entriesFrom}
+use Rattle.wire.specs.Layout.{entries_from}
 use Rattle.fault.specs.Fault.{Reading, judged}
-use Rattle.wire.specs.Lists.{ofEntries, suitesFrom}
+use Rattle.wire.specs.Lists.{of_entries, suites_from}
 use Rattle.wire.specs.Parts.{Listed, listed}
 use Rattle.wire.specs.declared.varint.Said as first
 use Rattle.wire.specs.declared.varint.Said.TheVariants as first-say
@@ -23,4 +23,4 @@ SaidBy most (first-say.More low) bytes = said 10 bytes ≡ behind low (128 ^ mos
 
 -- A packed list from `start` to the end of the bytes.
 unfoldable pub list_from : List ℕ → ℕ → Reading Listed
-list_from bytes start = judged (ofEntries bytes 16 (entriesFrom bytes start)) (listed (suitesFrom bytes start) (length bytes))
+list_from bytes start = judged (of_entries bytes 16 (entries_from bytes start)) (listed (suites_from bytes start) (length bytes))

@@ -13,13 +13,13 @@ places after place next (suc left) =
     (place ∷ places after (suc place) (after place) left)
 
 -- The places of the parts from `start` to the message's end.
-abbrev pub partsFrom : (message : List ℕ) (after : ℕ → ℕ) (start : ℕ) → List ℕ
-partsFrom message after start = places after start start (length message - start)
+abbrev pub parts_from : (message : List ℕ) (after : ℕ → ℕ) (start : ℕ) → List ℕ
+parts_from message after start = places after start start (length message - start)
 
 -- The place after a number. After a faulty one no part follows: the message's end.
-abbrev pub afterNumber : List ℕ → Number → ℕ
-afterNumber message (value number next) = next
-afterNumber message (fault refusal) = length message
+abbrev pub after_number : List ℕ → Number → ℕ
+after_number message (value number next) = next
+after_number message (fault refusal) = length message
 
 -- A length-delimited part: where its bytes begin and how many they are, or the refusal that its length shows.
 pub data Block : Type 0 where
@@ -32,8 +32,8 @@ bounded message (value size start) = cond (ltb (length message) (start + size)) 
 bounded message (fault refusal) = faulty refusal
 
 -- The length-delimited part at a place.
-abbrev pub blockAt : List ℕ → ℕ → Block
-blockAt message place = bounded message (number_at message place)
+abbrev pub block_at : List ℕ → ℕ → Block
+block_at message place = bounded message (number_at message place)
 
 -- The place after a length-delimited part; after a faulty one, the message's end.
 abbrev pub after_block : List ℕ → Block → ℕ
@@ -41,26 +41,26 @@ after_block message (block start size) = start + size
 after_block message (faulty refusal) = length message
 
 -- A key is eight times the field's number, plus the wire type.
-abbrev pub fieldNumber : ℕ → ℕ
-fieldNumber key = key / 8
+abbrev pub field_number : ℕ → ℕ
+field_number key = key / 8
 
 -- The wire type in a key.
-abbrev pub wireType : ℕ → ℕ
-wireType key = key % 8
+abbrev pub wire_type : ℕ → ℕ
+wire_type key = key % 8
 
 -- The place after what a key announces: wire type 0 is a varint, 2 length-delimited. The public format has other types. No field
 -- of ours has one, so their key shows a fault, and what follows it does not matter: they, and a faulty key, end the message.
-abbrev pub afterKey : List ℕ → Number → ℕ
-afterKey message (value key next) =
-    cond (eqb (wireType key) 0)
-    (afterNumber message (number_at message next))
-    (cond (eqb (wireType key) 2) (after_block message (blockAt message next)) (length message))
-afterKey message (fault refusal) = length message
+abbrev pub after_key : List ℕ → Number → ℕ
+after_key message (value key next) =
+    cond (eqb (wire_type key) 0)
+    (after_number message (number_at message next))
+    (cond (eqb (wire_type key) 2) (after_block message (block_at message next)) (length message))
+after_key message (fault refusal) = length message
 
 -- The places of a message's fields, the first of them at `start`.
-abbrev pub fieldsFrom : List ℕ → ℕ → List ℕ
-fieldsFrom message start = partsFrom message (λ place. afterKey message (number_at message place)) start
+abbrev pub fields_from : List ℕ → ℕ → List ℕ
+fields_from message start = parts_from message (λ place. after_key message (number_at message place)) start
 
 -- The places of the entries of a packed list, the first of them at `start`. Like a message it is given as the bytes up to its end.
-abbrev pub entriesFrom : List ℕ → ℕ → List ℕ
-entriesFrom list start = partsFrom list (λ place. afterNumber list (number_at list place)) start
+abbrev pub entries_from : List ℕ → ℕ → List ℕ
+entries_from list start = parts_from list (λ place. after_number list (number_at list place)) start

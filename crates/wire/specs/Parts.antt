@@ -1,26 +1,26 @@
 -- The values of the definitions for each case of the enums that the code answers with.
 use Rattle.std.specs.Prelude.{◌≡◌, ℕ, ◌≤◌, List, []}
 use Rattle.wire.specs.Varint.{Number, value, fault}
-use Rattle.wire.specs.Layout.{Block, block, faulty, blockAt, after_block}
-use Rattle.fault.specs.Fault.{Reading, readAs, refused, judged}
-use Rattle.wire.specs.Lists.{of_list, suitesIn, entries, padded}
-use Rattle.fault.specs.Refusals.{refusalNumber}
+use Rattle.wire.specs.Layout.{Block, block, faulty, block_at, after_block}
+use Rattle.fault.specs.Fault.{Reading, read_as, refused, judged}
+use Rattle.wire.specs.Lists.{of_list, suites_in, entries, padded}
+use Rattle.fault.specs.Refusals.{refusal_number}
 use Rattle.wire.specs.declared.varint.Varint.{Varint}
 use Rattle.wire.specs.declared.varint.Varint.TheVariants as varint
 use Rattle.wire.specs.declared.block.Block as part
-use Rattle.wire.specs.declared.block.Block.TheVariants as part-is
+use Rattle.wire.specs.declared.block.Block.TheVariants as part_is
 use Rattle.wire.specs.declared.list.Packed.{Packed}
 use Rattle.wire.specs.declared.list.Packed.TheVariants as packed
 
 -- A varint.
 abbrev pub number_of : Varint → Number
 number_of (varint.Number number next) = value number next
-number_of (varint.Fault refusal) = fault (refusalNumber refusal)
+number_of (varint.Fault refusal) = fault (refusal_number refusal)
 
 -- A length-delimited part.
 abbrev pub block_of : part.Block → Block
-block_of (part-is.Bytes start size) = block start size
-block_of (part-is.Fault refusal) = faulty (refusalNumber refusal)
+block_of (part_is.Bytes start size) = block start size
+block_of (part_is.Fault refusal) = faulty (refusal_number refusal)
 
 -- The suites of a packed list, and the place after it.
 pub record Listed : Type 0 where
@@ -34,13 +34,13 @@ listed suites next = record { suites = suites; next = next }
 -- The packed list at a place.
 unfoldable pub packed_at : List ℕ → ℕ → Reading Listed
 packed_at bytes place =
-    judged (of_list bytes place (blockAt bytes place))
-    (listed (suitesIn bytes (blockAt bytes place)) (after_block bytes (blockAt bytes place)))
+    judged (of_list bytes place (block_at bytes place))
+    (listed (suites_in bytes (block_at bytes place)) (after_block bytes (block_at bytes place)))
 
 -- A packed list, with the list that its suites were written to.
-abbrev pub packedOf : Packed → List ℕ → Reading Listed
-packedOf (packed.Suites count next) suites = readAs (listed (entries count suites) next)
-packedOf (packed.Fault refusal) suites = refused (refusalNumber refusal)
+abbrev pub packed_of : Packed → List ℕ → Reading Listed
+packed_of (packed.Suites count next) suites = read_as (listed (entries count suites) next)
+packed_of (packed.Fault refusal) suites = refused (refusal_number refusal)
 
 -- A list of sixteen entries holds so many suites, and then zeros.
 abbrev pub Holds : ℕ → List ℕ → Type 0

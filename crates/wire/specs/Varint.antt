@@ -26,14 +26,14 @@ pub data Number : Type 0 where
   fault : (refusal : ℕ) → Number
 
 -- A varint at a place: cut is refusal 21; endless, or too large for 32 bits, is 24.
-abbrev pub numberFrom : (place : ℕ) → Said → Number
-numberFrom place (says number width) = cond (ltb 4294967295 number) (fault 24) (value number (place + width))
-numberFrom place cut = fault 21
-numberFrom place endless = fault 24
+abbrev pub number_from : (place : ℕ) → Said → Number
+number_from place (says number width) = cond (ltb 4294967295 number) (fault 24) (value number (place + width))
+number_from place cut = fault 21
+number_from place endless = fault 24
 
 -- The number at a place of a message.
 unfoldable pub number_at : List ℕ → ℕ → Number
-number_at message place = numberFrom place (said 10 (drop place message))
+number_at message place = number_from place (said 10 (drop place message))
 
 -- A bit above 1 is refusal 24.
 abbrev pub as_bit : Number → Number

@@ -1,6 +1,6 @@
 // A length-delimited part.
 ghost use Rattle.std.specs.Prelude.{◌≡◌};
-ghost use Rattle.wire.specs.Layout.{blockAt};
+ghost use Rattle.wire.specs.Layout.{block_at};
 ghost use Rattle.wire.specs.Parts.{block_of};
 
 use crate::varint::{Varint, number};
@@ -15,7 +15,7 @@ pub enum Block {
 
 // The length-delimited part at a place. It does not run past the end of the bytes.
 pub fn block_at(bytes: &[u8], place: usize) -> Block
-    ensures { block_of result ≡ blockAt bytes.now place }
+    ensures { block_of result ≡ block_at bytes.now place }
 {
     let length = number(bytes, place);
     match length {

@@ -2,7 +2,7 @@
 ghost use Rattle.std.specs.Prelude.{◌≡◌, []};
 ghost use Rattle.wire.specs.Bytes.{list_from};
 ghost use Rattle.wire.specs.Lists.{padded};
-ghost use Rattle.wire.specs.Parts.{Stored, packed_at, packedOf};
+ghost use Rattle.wire.specs.Parts.{Stored, packed_at, packed_of};
 
 use crate::block::{Block, block_at};
 use crate::varint::{Varint, entry};
@@ -20,7 +20,7 @@ pub enum Packed {
 // The entries from `start` to the end of the bytes, written to `suites`, which holds zeros.
 fn entries(bytes: &[u8], start: usize, suites: &mut [u32; 16]) -> Packed
     requires { suites.old ≡ padded [] }
-    ensures suites_after { packedOf result suites.new ≡ list_from bytes.now start }
+    ensures suites_after { packed_of result suites.new ≡ list_from bytes.now start }
     ensures stored { Stored result suites.new }
 {
     let mut count = 0;
@@ -48,7 +48,7 @@ fn entries(bytes: &[u8], start: usize, suites: &mut [u32; 16]) -> Packed
 
 // The packed list at a place, written to `suites` with zeros behind it. After a fault `suites` holds zeros.
 pub fn packed_at(bytes: &[u8], place: usize, suites: &mut [u32; 16]) -> Packed
-    ensures suites_after { packedOf result suites.new ≡ packed_at bytes.now place }
+    ensures suites_after { packed_of result suites.new ≡ packed_at bytes.now place }
     ensures stored { Stored result suites.new }
 {
     *suites = [0; 16];

@@ -1,6 +1,6 @@
 // A varint: seven bits a byte, the lowest first.
 ghost use Rattle.std.specs.Prelude.{◌≡◌, cond, ◌≤◌, ◌+◌, ltb, length};
-ghost use Rattle.wire.specs.Varint.{value, fault, said, numberFrom, number_at, bit_at};
+ghost use Rattle.wire.specs.Varint.{value, fault, said, number_from, number_at, bit_at};
 ghost use Rattle.wire.specs.Bytes.{SaidBy};
 ghost use Rattle.wire.specs.Parts.{number_of};
 
@@ -76,7 +76,7 @@ fn first_bytes(bytes: &[u8], most: usize) -> Said
 // A number of any length, from its bytes on; `place` is that of the first. With any bit of a tenth byte it is too large.
 fn long_number(bytes: &[u8], place: usize) -> Varint
     requires { place + length bytes.now ≤ 18446744073709551615 }
-    ensures { number_of result ≡ numberFrom place (said 10 bytes.now) }
+    ensures { number_of result ≡ number_from place (said 10 bytes.now) }
 {
     let said = first_bytes(bytes, SAFE_WIDTH);
     match said {

@@ -8,8 +8,8 @@ use Rattle.arrival.specs.Arrival.{codes, code_of}
 use Rattle.arrival.proofs.code_of.Statement.{statement}
 use Rattle.arrival.proofs.code_of.Tie as tie
 
-pub code-of-spec : {M : Type 1} → statement M
-code-of-spec =
+pub code_of_spec : {M : Type 1} → statement M
+code_of_spec =
     tie.close
     (tie.spec
     (λ c. rw c.match.keys1)

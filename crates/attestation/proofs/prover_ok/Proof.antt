@@ -1,13 +1,13 @@
 -- `attestation::prover_ok` meets its contract.
 use lib.Dec.{eqb}
 use Rattle.effects.specs.ByEvent.{keep, start}
-use Rattle.effects.proofs.ByTest.{tag-if, order-if}
+use Rattle.effects.proofs.ByTest.{tag_if, order_if}
 use borrow.Author.Rules.{rules}
 use Rattle.attestation.proofs.prover_ok.Statement.{statement}
 use Rattle.attestation.proofs.prover_ok.Tie as tie
 
 returns : tie.Need-returns
-returns c = let a = c.before.before.args in rw (c.pick2.ensures, c.before.pick.ensures, tag-if (eqb a.to 8) start keep a.number a.connection.ack, order-if (eqb a.to 8) start keep a.connection.ack)
+returns c = let a = c.before.before.args in rw (c.pick2.ensures, c.before.pick.ensures, tag_if (eqb a.to 8) start keep a.number a.connection.ack, order_if (eqb a.to 8) start keep a.connection.ack)
 
-pub prover-ok-spec : {M : Type 1} → statement M
-prover-ok-spec = tie.close (tie.spec (λ c κs. search rules) (λ c κs. search rules) returns)
+pub prover_ok_spec : {M : Type 1} → statement M
+prover_ok_spec = tie.close (tie.spec (λ c κs. search rules) (λ c κs. search rules) returns)

@@ -11,5 +11,5 @@ returns c =
     let chosen = c.before.before.choose.ensures in
     (c.refusal-in.ensures ∙ ap (λ (a : Answer). a.refusal) chosen, c.before.numbers-in.ensures ∙ ap chosen_of chosen)
 
-pub menhotrac-choose-suites-spec : {M : Type 1} → statement M
-menhotrac-choose-suites-spec = tie.close (tie.spec (λ c κs. search rules) (λ c κs. search rules) (λ c κs. search rules) returns)
+pub menhotrac_choose_suites_spec : {M : Type 1} → statement M
+menhotrac_choose_suites_spec = tie.close (tie.spec (λ c κs. search rules) (λ c κs. search rules) (λ c κs. search rules) returns)

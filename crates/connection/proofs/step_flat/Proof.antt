@@ -6,11 +6,11 @@ use lib.ListN.{length}
 use borrow.Author.Rules.{rules}
 use Rattle.event.specs.Call.{Call, call_of}
 use Rattle.event.specs.declared.Suites.{Suites}
-use Rattle.flat.specs.Flat.{recordIn}
+use Rattle.flat.specs.Flat.{record_in}
 use Rattle.flat.specs.Written.{Written}
 use Rattle.record.specs.Limits.{limits}
 use Rattle.record.specs.declared.Connection.{Connection}
-use Rattle.protocol.specs.Input.{inputBy, input_of}
+use Rattle.protocol.specs.Input.{input_by, input_of}
 use Rattle.protocol.specs.Step.{step_of}
 use Rattle.connection.proofs.Result.{decides, room, kept, written, unwritten}
 use Rattle.connection.proofs.step_flat.Statement.{statement}
@@ -19,7 +19,7 @@ use Rattle.connection.proofs.step_flat.Tie as tie
 module _ (d : tie.After-decide) where
   -- The record, the call and the cache.
   abbrev before : Connection
-  before = recordIn d.before.before.before.before.before.before.before.before.before.before.before.before.before.args.numbers.now
+  before = record_in d.before.before.before.before.before.before.before.before.before.before.before.before.before.args.numbers.now
 
   abbrev call : Call
   call =
@@ -31,7 +31,7 @@ module _ (d : tie.After-decide) where
 
   -- The input is the call's.
   is_read : d.before.before.before.before.before.read.result ≡ input_of limits call (length cache)
-  is_read = d.before.before.before.before.before.read.ensures ∙ ap (λ (x : Suites). inputBy limits call.event (length call.payload) (length cache) x) d.before.before.before.before.before.before.choose-suites.ensures
+  is_read = d.before.before.before.before.before.read.ensures ∙ ap (λ (x : Suites). input_by limits call.event (length call.payload) (length cache) x) d.before.before.before.before.before.before.choose-suites.ensures
 
   wrote : Written (step_of limits before call (length cache)) d.decide.result d.decide.last.0 d.decide.last.1.0
   wrote = decides before call cache d.before.before.before.record-in.ensures is_read d.decide.ensures
@@ -53,8 +53,8 @@ returns-2 c =
 returns-3 : tie.Need-returns-3
 returns-3 c = let d = c.before.before.before in unwritten (before d) (call d) (cache d) (wrote d) c.before.enum_told.given.1 c.if1.false
 
-pub step-flat-spec : {M : Type 1} → statement M
-step-flat-spec =
+pub step_flat_spec : {M : Type 1} → statement M
+step_flat_spec =
     tie.close
     (tie.spec
     (λ c κs. search rules)

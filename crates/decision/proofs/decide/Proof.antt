@@ -8,16 +8,16 @@ use borrow.Author.Rules.{rules}
 use borrow.Author.Tests.{eq-eqb, ne_eqb, ltb-false, not-false}
 use Rattle.event.specs.declared.Input.{Input}
 use Rattle.record.specs.Limits.{limits}
-use Rattle.record.specs.WellFormed.{wellFormed}
+use Rattle.record.specs.WellFormed.{well_formed}
 use Rattle.record.specs.declared.Connection.{Connection}
-use Rattle.protocol.specs.Condition.{nextState}
-use Rattle.protocol.specs.Step.{unchanged, handledTo, decided}
+use Rattle.protocol.specs.Condition.{next_state}
+use Rattle.protocol.specs.Step.{unchanged, handled_to, decided}
 use Rattle.protocol.specs.declared.Answer.TheVariants.{Refused}
 use Rattle.protocol.specs.declared.Outcome.{Outcome}
 use Rattle.table.specs.Table.{cell, settled}
 use Rattle.protocol.proofs.Decided as judged
-use Rattle.effects.proofs.Effects.{by-event, by-locking}
-use Rattle.decision.proofs.Lent.{unmoved-written, handled-written}
+use Rattle.effects.proofs.Effects.{by_event_lem, by_locking_lem}
+use Rattle.decision.proofs.Lent.{unmoved_written, handled_written}
 use Rattle.decision.proofs.decide.Statement.{statement}
 use Rattle.decision.proofs.decide.Tie as tie
 
@@ -37,16 +37,16 @@ module _ (f : tie.After-lowest-fault) where
   outcome = decided limits connection code input
 
 -- The next state, of the condition.
-next-is : (n : tie.After-next-state) → let f = n.before.before.before in n.next-state.result ≡ nextState (connection f) (code f) (input f)
-unfolding nextState
-next-is n = let f = n.before.before.before in n.next-state.ensures ∙ ap (λ (b : Bool). settled (connection f).awaiting_ack (cell (connection f).state (code f) b)) n.before.holds.ensures
+next_is : (n : tie.After-next-state) → let f = n.before.before.before in n.next-state.result ≡ next_state (connection f) (code f) (input f)
+unfolding next_state
+next_is n = let f = n.before.before.before in n.next-state.ensures ∙ ap (λ (b : Bool). settled (connection f).awaiting_ack (cell (connection f).state (code f) b)) n.before.holds.ensures
 
 returns : tie.Need-returns
 returns c =
     let f = c.before.before.before in
     let low = f.lowest-fault in
     let some = ne_eqb low.result 0 c.before.before.if1.true in
-    unmoved-written _ _ _ (outcome f) low.result (connection f)
+    unmoved_written _ _ _ (outcome f) low.result (connection f)
     (rw some (judged.refused limits (connection f) (code f) (input f) low.result _ _ low.ensures refl refl some))
     c.unmoved.ensures
 
@@ -56,8 +56,8 @@ returns-2 c =
     let n = l.before in
     let f = n.before.before.before in
     let low = f.lowest-fault in
-    unmoved-written _ _ _ (outcome f) l.late-fault.result (connection f)
-    (rw l.late-fault.ensures (judged.ignored limits (connection f) (code f) (input f) low.result n.next-state.result _ low.ensures (next-is n) refl n.before.before.if1.false c.before.before.if2.true))
+    unmoved_written _ _ _ (outcome f) l.late-fault.result (connection f)
+    (rw l.late-fault.ensures (judged.ignored limits (connection f) (code f) (input f) low.result n.next-state.result _ low.ensures (next_is n) refl n.before.before.if1.false c.before.before.if2.true))
     c.unmoved2.ensures
 
 returns-3 : tie.Need-returns-3
@@ -65,33 +65,33 @@ returns-3 c =
     let n = c.before.before.before.before.before in
     let f = n.before.before.before in
     let low = f.lowest-fault in
-    unmoved-written _ _ _ (outcome f) 8 (connection f)
-    (judged.refused_full limits (connection f) (code f) (input f) low.result n.next-state.result true low.ensures (next-is n) (eq-eqb (connection f).handled 4294967295 c.before.before.if3.true) n.before.before.if1.false (ne_eqb n.next-state.result 11 c.before.before.before.if2.false) refl)
+    unmoved_written _ _ _ (outcome f) 8 (connection f)
+    (judged.refused_full limits (connection f) (code f) (input f) low.result n.next-state.result true low.ensures (next_is n) (eq-eqb (connection f).handled 4294967295 c.before.before.if3.true) n.before.before.if1.false (ne_eqb n.next-state.result 11 c.before.before.before.if2.false) refl)
     c.unmoved3.ensures
 
 -- Where no lower fault is present, the code is known and the record is well formed.
 known : (n : tie.After-next-state) → code n.before.before.before < 24
 known n =
     let f = n.before.before.before in
-    let h = ltb-false 23 (code f) (judged.no-faults limits (connection f) (code f) (input f) (sym n.before.before.if1.false ∙ f.lowest-fault.ensures)).0 in
+    let h = ltb-false 23 (code f) (judged.no_faults limits (connection f) (code f) (input f) (sym n.before.before.if1.false ∙ f.lowest-fault.ensures)).0 in
     omega arith
 
-well : (n : tie.After-next-state) → T (wellFormed limits (connection n.before.before.before))
+well : (n : tie.After-next-state) → T (well_formed limits (connection n.before.before.before))
 well n =
     let f = n.before.before.before in
-    let w = (judged.no-faults limits (connection f) (code f) (input f) (sym n.before.before.if1.false ∙ f.lowest-fault.ensures)).1.1.1.1.1.1.0 in
-    subst (λ (b : Bool). T b) (sym (not-false (wellFormed limits (connection f)) w)) tt
+    let w = (judged.no_faults limits (connection f) (code f) (input f) (sym n.before.before.if1.false ∙ f.lowest-fault.ensures)).1.1.1.1.1.1.0 in
+    subst (λ (b : Bool). T b) (sym (not-false (well_formed limits (connection f)) w)) tt
 
 -- The outcome of an event that the table lists, unless a later fault is present.
 goes : (e : tie.Else3) → let l = e.before.before in let n = l.before in let f = n.before.before.before in
-    cond (eqb l.late-fault.result 0) (handledTo n.next-state.result (connection f) (code f) (input f)) (unchanged (Refused l.late-fault.result) (connection f)) ≡ outcome f
+    cond (eqb l.late-fault.result 0) (handled_to n.next-state.result (connection f) (code f) (input f)) (unchanged (Refused l.late-fault.result) (connection f)) ≡ outcome f
 goes e =
     let l = e.before.before in
     let n = l.before in
     let f = n.before.before.before in
     let low = f.lowest-fault in
     rw l.late-fault.ensures
-    (judged.handled limits (connection f) (code f) (input f) low.result n.next-state.result false low.ensures (next-is n) (ne_eqb (connection f).handled 4294967295 e.if3.false) n.before.before.if1.false (ne_eqb n.next-state.result 11 e.before.if2.false) refl)
+    (judged.handled limits (connection f) (code f) (input f) low.result n.next-state.result false low.ensures (next_is n) (ne_eqb (connection f).handled 4294967295 e.if3.false) n.before.before.if1.false (ne_eqb n.next-state.result 11 e.before.if2.false) refl)
 
 returns-4 : tie.Need-returns-4
 returns-4 c =
@@ -99,13 +99,13 @@ returns-4 c =
     let l = e.before.before in
     let f = l.before.before.before.before in
     let some = ne_eqb l.late-fault.result 0 c.before.before.if4.true in
-    unmoved-written _ _ _ (outcome f) l.late-fault.result (connection f)
+    unmoved_written _ _ _ (outcome f) l.late-fault.result (connection f)
     (rw some (rw some at (goes e)))
     c.unmoved4.ensures
 
 -- The outcome of a handled event.
 goes_on : (e : tie.Else4) → let n = e.before.before.before.before in let f = n.before.before.before in
-    handledTo n.next-state.result (connection f) (code f) (input f) ≡ outcome f
+    handled_to n.next-state.result (connection f) (code f) (input f) ≡ outcome f
 goes_on e = rw e.if4.false at (goes e.before)
 
 returns-5 : tie.Need-returns-5
@@ -113,9 +113,9 @@ returns-5 c =
     let e = c.before.before.before.before.before in
     let n = e.before.before.before.before in
     let f = n.before.before.before in
-    handled-written _ _ _ (outcome f) _ n.next-state.result (connection f) (code f) (input f) (goes_on e) _
-    (c.before.lock.ensures ∙ by-locking (connection f) (code f) (input f) ∙
-    ap (λ (t : ℕ). handledTo t (connection f) (code f) (input f)) (sym c.before.before.before.before.if5.true))
+    handled_written _ _ _ (outcome f) _ n.next-state.result (connection f) (code f) (input f) (goes_on e) _
+    (c.before.lock.ensures ∙ by_locking_lem (connection f) (code f) (input f) ∙
+    ap (λ (t : ℕ). handled_to t (connection f) (code f) (input f)) (sym c.before.before.before.before.if5.true))
     c.put.ensures
 
 returns-6 : tie.Need-returns-6
@@ -124,12 +124,12 @@ returns-6 c =
     let n = e.before.before.before.before in
     let f = n.before.before.before in
     let to = n.next-state.result in
-    handled-written _ _ _ (outcome f) _ to (connection f) (code f) (input f) (goes_on e) _
-    (by-event limits (connection f) (code f) (input f) to (well n) (known n) (sym (next-is n)) (ne_eqb to 11 e.before.before.if2.false) (ne_eqb to 9 c.before.before.before.if5.false))
+    handled_written _ _ _ (outcome f) _ to (connection f) (code f) (input f) (goes_on e) _
+    (by_event_lem limits (connection f) (code f) (input f) to (well n) (known n) (sym (next_is n)) (ne_eqb to 11 e.before.before.if2.false) (ne_eqb to 9 c.before.before.before.if5.false))
     c.move-on.ensures
 
-pub decide-spec : {M : Type 1} → statement M
-decide-spec =
+pub decide_spec : {M : Type 1} → statement M
+decide_spec =
     tie.close
     (tie.spec
     (λ c κs. search rules)

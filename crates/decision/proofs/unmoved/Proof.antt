@@ -10,5 +10,5 @@ returns c = (rw (ne_eqb _ _ c.if1.true), c.before.slots-of.ensures)
 returns-2 : tie.Need-returns-2
 returns-2 c = (rw (eq-eqb _ _ c.if1.false), c.before.slots-of.ensures)
 
-pub unmoved-spec : {M : Type 1} → statement M
-unmoved-spec = tie.close (tie.spec (λ c κs. search rules) returns returns-2)
+pub unmoved_spec : {M : Type 1} → statement M
+unmoved_spec = tie.close (tie.spec (λ c κs. search rules) returns returns-2)

@@ -6,10 +6,10 @@ use mathlib.Core.List.{List, [], ◌∷◌}
 use Prim.Native.Nat.{ℕ}
 use lib.Dec.{T}
 use borrow.Author.Rules.{rules}
-use Rattle.effects.specs.ByEvent.{moving, movingCode}
-use Rattle.effects.proofs.ByTest.{true-or-false}
+use Rattle.effects.specs.ByEvent.{moving, moving_code}
+use Rattle.effects.proofs.ByTest.{true_or_false}
 use Rattle.flat.proofs.Written.{as_written}
-use Rattle.table.specs.Sets.{isIn}
+use Rattle.table.specs.Sets.{is_in}
 use Rattle.table.proofs.Arms.{Rest, one_of, remains}
 use Rattle.dispatch.proofs.move_on.Statement.{statement}
 use Rattle.dispatch.proofs.move_on.Tie as tie
@@ -19,11 +19,11 @@ abbrev arms : List (List ℕ)
 arms = (22 ∷ []) ∷ (21 ∷ []) ∷ (19 ∷ []) ∷ (18 ∷ []) ∷ (17 ∷ []) ∷ (16 ∷ []) ∷ (15 ∷ []) ∷ (14 ∷ []) ∷ (13 ∷ []) ∷ (11 ∷ []) ∷ (9 ∷ []) ∷ (7 ∷ []) ∷ (6 ∷ []) ∷ (4 ∷ []) ∷ (3 ∷ []) ∷ (2 ∷ []) ∷ (0 ∷ []) ∷ []
 
 -- Of the codes that move on 23 alone is in none of them, and a code that does not move on counts as 23.
-counts-as-23 : (code : ℕ) → Rest arms code → movingCode code ≡ 23
-counts-as-23 code r = elim (true-or-false (isIn moving code)) [ inl e ↦ rw e (remains arms moving code r (one_of moving code (subst (λ (b : Bool). T b) (sym e) tt))) | inr e ↦ rw e ]
+counts_as_23 : (code : ℕ) → Rest arms code → moving_code code ≡ 23
+counts_as_23 code r = elim (true_or_false (is_in moving code)) [ inl e ↦ rw e (remains arms moving code r (one_of moving code (subst (λ (b : Bool). T b) (sym e) tt))) | inr e ↦ rw e ]
 
-pub move-on-spec : {M : Type 1} → statement M
-move-on-spec =
+pub move_on_spec : {M : Type 1} → statement M
+move_on_spec =
     tie.close
     (tie.spec
     (λ c κs. search rules)
@@ -79,4 +79,4 @@ move-on-spec =
     (λ c. rw c.before.before.before.before.match.keys15 (as_written _ _ _ _ _ c.before.receive-ack.ensures c.put15.ensures))
     (λ c. rw c.before.before.before.before.match.keys16 (as_written _ _ _ _ _ c.before.expire-token.ensures c.put16.ensures))
     (λ c. rw c.before.before.before.before.match.keys17 (as_written _ _ _ _ _ c.before.verify-again2.ensures c.put17.ensures))
-    (λ c. rw (counts-as-23 _ c.before.before.before.before.match.rest) (as_written _ _ _ _ _ c.before.repeat-data.ensures c.put18.ensures)))
+    (λ c. rw (counts_as_23 _ c.before.before.before.before.match.rest) (as_written _ _ _ _ _ c.before.repeat-data.ensures c.put18.ensures)))

@@ -7,8 +7,8 @@ use Rattle.input.proofs.Opening.{alike}
 use Rattle.input.proofs.bit_in.Statement.{statement}
 use Rattle.input.proofs.bit_in.Tie as tie
 
-pub bit-in-spec : {M : Type 1} → statement M
-bit-in-spec =
+pub bit_in_spec : {M : Type 1} → statement M
+bit_in_spec =
     tie.close
     (tie.spec
     (λ c. search rules)

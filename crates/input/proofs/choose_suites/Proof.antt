@@ -4,8 +4,8 @@ use borrow.Author.Tests.{eq-eqb, ne_eqb}
 use Rattle.input.proofs.choose_suites.Statement.{statement}
 use Rattle.input.proofs.choose_suites.Tie as tie
 
-pub choose-suites-spec : {M : Type 1} → statement M
-choose-suites-spec =
+pub choose_suites_spec : {M : Type 1} → statement M
+choose_suites_spec =
     tie.close
     (tie.spec
     (λ c. rw (ne_eqb _ _ c.if1.true))

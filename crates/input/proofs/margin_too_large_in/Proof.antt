@@ -8,11 +8,11 @@ use Rattle.input.proofs.Opening.{alike}
 use Rattle.input.proofs.margin_too_large_in.Statement.{statement}
 use Rattle.input.proofs.margin_too_large_in.Tie as tie
 
-pub margin-too-large-in-spec : {M : Type 1} → statement M
-margin-too-large-in-spec =
+pub margin_too_large_in_spec : {M : Type 1} → statement M
+margin_too_large_in_spec =
     tie.close
     (tie.spec
     (λ c. search rules)
-    (λ c. alike (λ kind. false) (λ kind. (fields_of kind).largeMargin) (0 ∷ 1 ∷ 2 ∷ 3 ∷ []) (refl, (λ tag. refl, (λ tag timer. refl, λ bit. refl))) c.before.args.kind c.match.keys2)
+    (λ c. alike (λ kind. false) (λ kind. (fields_of kind).large_margin) (0 ∷ 1 ∷ 2 ∷ 3 ∷ []) (refl, (λ tag. refl, (λ tag timer. refl, λ bit. refl))) c.before.args.kind c.match.keys2)
     (λ c κs. search rules)
     (λ c. rw c.before.before.kind.given.1 c.margin-too-large.ensures))

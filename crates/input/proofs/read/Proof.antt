@@ -1,12 +1,12 @@
 -- `input::read` meets its contract.
 use borrow.Author.Rules.{rules}
-use Rattle.protocol.specs.Input.{inputBy}
-use Rattle.input.proofs.Opening.{good-seconds}
+use Rattle.protocol.specs.Input.{input_by}
+use Rattle.input.proofs.Opening.{good_seconds}
 use Rattle.input.proofs.read.Statement.{statement}
 use Rattle.input.proofs.read.Tie as tie
 
 pub read_spec : {M : Type 1} → statement M
-unfolding inputBy
+unfolding input_by
 read_spec =
     tie.close
     (tie.spec
@@ -19,4 +19,4 @@ read_spec =
     (λ c κs. search rules)
     (λ c κs. search rules)
     (λ c κs. search rules)
-    (λ c. rw (c.payload-too-long.ensures, c.before.short-len.ensures, c.before.before.seconds-in.ensures, good-seconds _, c.before.before.before.wrong-verdict-in.ensures, c.before.before.before.before.margin-too-large-in.ensures, c.before.before.before.before.before.bit_in.ensures, c.before.before.before.before.before.before.timer-in.ensures, c.before.before.before.before.before.before.before.tag_in.ensures, c.before.before.before.before.before.before.before.before.kind-of.ensures)))
+    (λ c. rw (c.payload-too-long.ensures, c.before.short-len.ensures, c.before.before.seconds-in.ensures, good_seconds _, c.before.before.before.wrong-verdict-in.ensures, c.before.before.before.before.margin-too-large-in.ensures, c.before.before.before.before.before.bit_in.ensures, c.before.before.before.before.before.before.timer-in.ensures, c.before.before.before.before.before.before.before.tag_in.ensures, c.before.before.before.before.before.before.before.before.kind-of.ensures)))

@@ -7,11 +7,11 @@ use Rattle.input.proofs.Opening.{alike}
 use Rattle.input.proofs.seconds_in.Statement.{statement}
 use Rattle.input.proofs.seconds_in.Tie as tie
 
-pub seconds-in-spec : {M : Type 1} → statement M
-seconds-in-spec =
+pub seconds_in_spec : {M : Type 1} → statement M
+seconds_in_spec =
     tie.close
     (tie.spec
     (λ c. search rules)
     (λ c. alike (λ kind. 0) (λ kind. (fields_of kind).seconds) (0 ∷ 1 ∷ 2 ∷ 3 ∷ []) (refl, (λ tag. refl, (λ tag timer. refl, λ bit. refl))) c.before.args.kind c.match.keys2)
     (λ c κs. search rules)
-    (λ c. rw c.before.before.kind.given.1 (c.good-seconds.ensures ∙ search rules)))
+    (λ c. rw c.before.before.kind.given.1 (c.good_seconds.ensures ∙ search rules)))

@@ -7,6 +7,6 @@ use Rattle.input.proofs.short_len.Tie as tie
 returns-2 : tie.Need-returns-2
 returns-2 c = rw (le-ltb _ _ c.if1.false)
 
-pub short-len-spec : {M : Type 1} → statement M
-short-len-spec =
+pub short_len_spec : {M : Type 1} → statement M
+short_len_spec =
     tie.close (tie.spec (λ c. search rules) (λ c. rw (lt-ltb _ _ c.if1.true)) returns-2)

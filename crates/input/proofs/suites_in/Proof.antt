@@ -3,8 +3,8 @@ use borrow.Author.Rules.{rules}
 use Rattle.input.proofs.suites_in.Statement.{statement}
 use Rattle.input.proofs.suites_in.Tie as tie
 
-pub suites-in-spec : {M : Type 1} → statement M
-suites-in-spec =
+pub suites_in_spec : {M : Type 1} → statement M
+suites_in_spec =
     tie.close
     (tie.spec
     (λ c. search rules)

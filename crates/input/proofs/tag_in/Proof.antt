@@ -2,17 +2,17 @@
 use mathlib.Core.Path.{refl, ◌∙◌}
 use mathlib.Core.List.{[], ◌∷◌}
 use borrow.Author.Rules.{rules}
-use Rattle.input.specs.TimeoutTag.{timeoutTag}
+use Rattle.input.specs.TimeoutTag.{timeout_tag}
 use Rattle.protocol.specs.Kind.{fields_of}
 use Rattle.input.proofs.Opening.{alike}
 use Rattle.input.proofs.tag_in.Statement.{statement}
 use Rattle.input.proofs.tag_in.Tie as tie
 
-pub tag-in-spec : {M : Type 1} → statement M
-tag-in-spec =
+pub tag_in_spec : {M : Type 1} → statement M
+tag_in_spec =
     tie.close
     (tie.spec
     (λ c. search rules)
     (λ c κs. search rules)
-    (λ c. c.timeout-tag-in.ensures ∙ alike timeoutTag (λ kind. (fields_of kind).tag) (0 ∷ 2 ∷ 3 ∷ 4 ∷ []) (refl, (λ tag timer. refl, (λ bit. refl, λ verdict margin expiry now. refl))) c.before.before.args.kind c.before.match.keys2)
+    (λ c. c.timeout-tag-in.ensures ∙ alike timeout_tag (λ kind. (fields_of kind).tag) (0 ∷ 2 ∷ 3 ∷ 4 ∷ []) (refl, (λ tag timer. refl, (λ bit. refl, λ verdict margin expiry now. refl))) c.before.before.args.kind c.before.match.keys2)
     (λ c. search rules))

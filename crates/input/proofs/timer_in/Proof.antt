@@ -7,8 +7,8 @@ use Rattle.input.proofs.Opening.{alike}
 use Rattle.input.proofs.timer_in.Statement.{statement}
 use Rattle.input.proofs.timer_in.Tie as tie
 
-pub timer-in-spec : {M : Type 1} → statement M
-timer-in-spec =
+pub timer_in_spec : {M : Type 1} → statement M
+timer_in_spec =
     tie.close
     (tie.spec
     (λ c. search rules)

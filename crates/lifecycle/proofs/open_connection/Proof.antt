@@ -6,5 +6,5 @@ use Rattle.lifecycle.proofs.open_connection.Tie as tie
 returns : tie.Need-returns
 returns c = refl
 
-pub open-connection-spec : {M : Type 1} → statement M
-open-connection-spec = tie.close (tie.spec returns)
+pub open_connection_spec : {M : Type 1} → statement M
+open_connection_spec = tie.close (tie.spec returns)

@@ -6,5 +6,5 @@ use Rattle.lifecycle.proofs.start_handshake.Tie as tie
 returns : tie.Need-returns
 returns c = refl
 
-pub start-handshake-spec : {M : Type 1} → statement M
-start-handshake-spec = tie.close (tie.spec returns)
+pub start_handshake_spec : {M : Type 1} → statement M
+start_handshake_spec = tie.close (tie.spec returns)

@@ -3,7 +3,7 @@ use mathlib.Core.Path.{◌≡◌, sym, ap, subst}
 use Prim.Native.Nat.{◌≤◌}
 use native.Mathlib.Omega.{arith}
 use borrow.Author.Rules.{rules}
-use Rattle.fields.specs.Contents.{contentsIn}
+use Rattle.fields.specs.Contents.{contents_in}
 use Rattle.fields.specs.declared.Contents.{Contents}
 use Rattle.messages.specs.Whole.{KnownContents, carried, mapped}
 use Rattle.messages.proofs.Answers.{says_plain}
@@ -17,14 +17,14 @@ nine c k =
     let above-5 : 6 ≤ c.before.before.contents2.given.0.0 = omega (arith, k.0, r.0.0.0.1, r.0.0.0.0.1, r.0.0.0.0.0.1, r.0.0.0.0.0.0.1) in
     omega (arith, above-5, k.1, r.1, r.0.1, r.0.0.1)
 
-pub message-of-spec : {M : Type 1} → statement M
-message-of-spec =
+pub message_of_spec : {M : Type 1} → statement M
+message_of_spec =
     tie.close
     (tie.spec
     (λ c. search rules)
     (λ c. search rules)
     (λ c. search rules)
-    (λ c k. let e = c.before.contents.given.1 in (λ p v. ap (λ (q : Contents). mapped carried (contentsIn q p v)) (sym e), subst KnownContents e k))
+    (λ c k. let e = c.before.contents.given.1 in (λ p v. ap (λ (q : Contents). mapped carried (contents_in q p v)) (sym e), subst KnownContents e k))
     (λ c k. (says_plain _ _ _ _ c.before.before.contents2.given.1 2 (λ h. c.match2.keys1) k, tt))
     (λ c k. (says_plain _ _ _ _ c.before.before.contents2.given.1 3 (λ h. c.match2.keys2) k, tt))
     (λ c k. (says_plain _ _ _ _ c.before.before.contents2.given.1 4 (λ h. c.match2.keys3) k, tt))
@@ -33,4 +33,4 @@ message-of-spec =
     (λ c k. (says_plain _ _ _ _ c.before.before.contents2.given.1 7 (λ h. c.match2.keys6) k, tt))
     (λ c k. (says_plain _ _ _ _ c.before.before.contents2.given.1 8 (λ h. c.match2.keys7) k, tt))
     (λ c k. (says_plain _ _ _ _ c.before.before.contents2.given.1 9 (nine c) k, tt))
-    (λ c k. (λ p v. ap (λ (q : Contents). mapped carried (contentsIn q p v)) (sym c.before.contents3.given.1), tt)))
+    (λ c k. (λ p v. ap (λ (q : Contents). mapped carried (contents_in q p v)) (sym c.before.contents3.given.1), tt)))

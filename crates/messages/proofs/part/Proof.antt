@@ -9,9 +9,9 @@ use Rattle.messages.specs.Numbers.{part_of}
 use Rattle.messages.proofs.part.Statement.{statement}
 use Rattle.messages.proofs.part.Tie as tie
 
-pub part-spec : {M : Type 1} → statement M
+pub part_spec : {M : Type 1} → statement M
 unfolding part_of
-part-spec =
+part_spec =
     tie.close
     (tie.spec
     (λ c. search rules)

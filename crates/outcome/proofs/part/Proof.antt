@@ -7,9 +7,9 @@ use Rattle.protocol.specs.Block.{part_of}
 use Rattle.outcome.proofs.part.Statement.{statement}
 use Rattle.outcome.proofs.part.Tie as tie
 
-pub part-spec : {M : Type 1} → statement M
+pub part_spec : {M : Type 1} → statement M
 unfolding part_of
-part-spec =
+part_spec =
     tie.close
     (tie.spec
     (λ c. search rules)

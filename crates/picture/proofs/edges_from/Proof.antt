@@ -11,8 +11,8 @@ invariant-loop from to₀ to = to ≤ 10
 abbrev decreases-loop : tie.decreases-loop
 decreases-loop from to₀ to = 10 - to
 
-pub edges-from-spec : {M : Type 1} → statement M
-edges-from-spec =
+pub edges_from_spec : {M : Type 1} → statement M
+edges_from_spec =
     tie.close
     (tie.spec invariant-loop decreases-loop
     (λ c. omega arith)

@@ -11,8 +11,8 @@ invariant-loop left₀ left = left ≤ 10
 abbrev decreases-loop : tie.decreases-loop
 decreases-loop left₀ left = left
 
-pub nodes-spec : {M : Type 1} → statement M
-nodes-spec =
+pub nodes_spec : {M : Type 1} → statement M
+nodes_spec =
     tie.close
     (tie.spec invariant-loop decreases-loop
     (λ c. search rules)

@@ -6,5 +6,5 @@ use Rattle.record.proofs.cleared.Tie as tie
 returns : tie.Need-returns
 returns c = refl
 
-pub cleared-spec : {M : Type 1} → statement M
-cleared-spec = tie.close (tie.spec returns)
+pub cleared_spec : {M : Type 1} → statement M
+cleared_spec = tie.close (tie.spec returns)

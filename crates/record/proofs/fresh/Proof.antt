@@ -6,5 +6,5 @@ use Rattle.record.proofs.fresh.Tie as tie
 returns : tie.Need-returns
 returns c = c.cleared.ensures
 
-pub fresh-spec : {M : Type 1} → statement M
-fresh-spec = tie.close (tie.spec (λ c κs. search rules) returns)
+pub fresh_spec : {M : Type 1} → statement M
+fresh_spec = tie.close (tie.spec (λ c κs. search rules) returns)

@@ -6,5 +6,5 @@ use Rattle.renewal.proofs.expire_token.Tie as tie
 returns : tie.Need-returns
 returns c = rw (c.pick4.ensures, c.before.before.pick3.ensures, c.before.before.before.before.pick2.ensures, c.before.before.before.before.before.before.pick.ensures)
 
-pub expire-token-spec : {M : Type 1} → statement M
-expire-token-spec = tie.close (tie.spec (λ c κs. search rules) (λ c κs. search rules) (λ c κs. search rules) (λ c κs. search rules) returns)
+pub expire_token_spec : {M : Type 1} → statement M
+expire_token_spec = tie.close (tie.spec (λ c κs. search rules) (λ c κs. search rules) (λ c κs. search rules) (λ c κs. search rules) returns)

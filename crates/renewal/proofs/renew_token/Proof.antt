@@ -6,5 +6,5 @@ use Rattle.renewal.proofs.renew_token.Tie as tie
 returns : tie.Need-returns
 returns c = refl
 
-pub renew-token-spec : {M : Type 1} → statement M
-renew-token-spec = tie.close (tie.spec returns)
+pub renew_token_spec : {M : Type 1} → statement M
+renew_token_spec = tie.close (tie.spec returns)

@@ -5,10 +5,10 @@ use Rattle.scan.proofs.find.Statement.{statement}
 use Rattle.scan.proofs.find.Tie as tie
 
 abbrev invariant-loop : tie.invariant-loop
-invariant-loop s from byte at₀ at-end at = (from ≤ at) × (at ≤ at-end)
+invariant-loop s from byte at₀ at_end at = (from ≤ at) × (at ≤ at_end)
 
 abbrev decreases-loop : tie.decreases-loop
-decreases-loop s from byte at₀ at-end at = at-end - at
+decreases-loop s from byte at₀ at_end at = at_end - at
 
 pub find_spec : {M : Type 1} → statement M
 find_spec =

@@ -11,8 +11,8 @@ invariant-loop s index from₀ counter₀ from counter = from ≤ length s
 abbrev decreases-loop : tie.decreases-loop
 decreases-loop s index from₀ counter₀ from counter = index - counter
 
-pub group-spec : {M : Type 1} → statement M
-group-spec =
+pub group_spec : {M : Type 1} → statement M
+group_spec =
     tie.close
     (tie.spec invariant-loop decreases-loop
     (λ c. search rules)

@@ -11,8 +11,8 @@ invariant-loop s count₀ at₀ count at = (at ≤ length s) × (count ≤ at + 
 abbrev decreases-loop : tie.decreases-loop
 decreases-loop s count₀ at₀ count at = length s - at
 
-pub groups-spec : {M : Type 1} → statement M
-groups-spec =
+pub groups_spec : {M : Type 1} → statement M
+groups_spec =
     tie.close
     (tie.spec invariant-loop decreases-loop
     (λ c κs. search rules)

@@ -11,8 +11,8 @@ invariant-loop row group_index index group from₀ left₀ from left = from ≤ 
 abbrev decreases-loop : tie.decreases-loop
 decreases-loop row group_index index group from₀ left₀ from left = length group + 1 - from
 
-pub item-spec : {M : Type 1} → statement M
-item-spec =
+pub item_spec : {M : Type 1} → statement M
+item_spec =
     tie.close
     (tie.spec invariant-loop decreases-loop
     (λ c κs. search rules)

@@ -12,8 +12,8 @@ invariant-loop line₀ size₀ line size = length line ≡ length line₀
 abbrev decreases-loop : tie.decreases-loop
 decreases-loop line₀ size₀ line size = 18446744073709551615 - size
 
-pub read-line-spec : {M : Type 1} → statement M
-read-line-spec =
+pub read_line_spec : {M : Type 1} → statement M
+read_line_spec =
     tie.close
     (tie.spec invariant-loop decreases-loop
     (λ c. search rules)

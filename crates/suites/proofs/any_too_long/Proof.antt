@@ -6,5 +6,5 @@ use Rattle.suites.proofs.any_too_long.Tie as tie
 returns : tie.Need-returns
 returns c = refl
 
-pub any-too-long-spec : {M : Type 1} → statement M
-any-too-long-spec = tie.close (tie.spec returns)
+pub any_too_long_spec : {M : Type 1} → statement M
+any_too_long_spec = tie.close (tie.spec returns)

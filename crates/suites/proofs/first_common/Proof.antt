@@ -8,28 +8,28 @@ use borrow.Author.Rules.{rules}
 use borrow.Author.Tests.{eq-eqb, ne_eqb}
 use lib.ListN.{length, get_or, drop}
 use Rattle.suites.specs.Answer.{Found}
-use Rattle.suites.specs.Choice.{find, firstFound, foundIn}
-use Rattle.suites.proofs.Found.{here, later, at-end, rest-found, among, past}
+use Rattle.suites.specs.Choice.{find, first_found, found_in}
+use Rattle.suites.proofs.Found.{here, later, at_end, rest_found, among, past}
 use Rattle.suites.proofs.first_common.Statement.{statement}
 use Rattle.suites.proofs.first_common.Tie as tie
 
-abbrev isFound : Found → Bool
-isFound f = f.found
+abbrev is_found : Found → Bool
+is_found f = f.found
 
 abbrev invariant-loop : tie.invariant-loop
-invariant-loop verifiers provers groups i suite group₀ group = (foundIn provers suite ≡ foundIn (drop (group * 8) provers) suite) × (group ≤ groups)
+invariant-loop verifiers provers groups i suite group₀ group = (found_in provers suite ≡ found_in (drop (group * 8) provers) suite) × (group ≤ groups)
 
 abbrev decreases-loop : tie.decreases-loop
 decreases-loop verifiers provers groups i suite group₀ group = groups - group
 
 abbrev invariant-loop2 : tie.invariant-loop2
-invariant-loop2 verifiers provers groups i suite rest j₀ j-end j = foundIn provers suite ≡ foundIn (drop j rest) suite
+invariant-loop2 verifiers provers groups i suite rest j₀ j-end j = found_in provers suite ≡ found_in (drop j rest) suite
 
 abbrev decreases-loop2 : tie.decreases-loop2
 decreases-loop2 verifiers provers groups i suite rest j₀ j-end j = j-end - j
 
 abbrev invariant-search : tie.invariant-search
-invariant-search verifiers provers groups i₀ i = firstFound verifiers provers ≡ firstFound (drop i verifiers) provers
+invariant-search verifiers provers groups i₀ i = first_found verifiers provers ≡ first_found (drop i verifiers) provers
 
 abbrev decreases-search : tie.decreases-search
 decreases-search verifiers provers groups i₀ i = length verifiers - i
@@ -38,9 +38,9 @@ decreases-search verifiers provers groups i₀ i = length verifiers - i
 stopped :
     (verifiers provers : List ℕ) (i : ℕ) →
     i < length verifiers →
-    firstFound verifiers provers ≡ firstFound (drop i verifiers) provers →
-    foundIn provers (get_or verifiers i 0) ≡ true →
-    find (λ _. true) (drop i verifiers) ≡ firstFound verifiers provers
+    first_found verifiers provers ≡ first_found (drop i verifiers) provers →
+    found_in provers (get_or verifiers i 0) ≡ true →
+    find (λ _. true) (drop i verifiers) ≡ first_found verifiers provers
 stopped verifiers provers i h e t = here _ verifiers i h refl ∙ sym (e ∙ here _ verifiers i h t)
 
 loop-again : tie.Need-loop-preserved invariant-loop decreases-loop invariant-loop2 decreases-loop2 invariant-search decreases-search
@@ -53,23 +53,23 @@ loop2-holds : tie.Need-loop2-init invariant-loop decreases-loop invariant-loop2 
 loop2-holds c =
     let l = c.before.before.loop in
     let provers = c.before.before.before.before.before.before.before.before.args.provers.now in
-    l.invariant.0 ∙ rest-found _ provers (l.group * 8) (length provers / 8 * 8) (omega arith)
+    l.invariant.0 ∙ rest_found _ provers (l.group * 8) (length provers / 8 * 8) (omega arith)
 
 loop2-again : tie.Need-loop2-preserved invariant-loop decreases-loop invariant-loop2 decreases-loop2 invariant-search decreases-search
 loop2-again c =
     let l = c.before.before.before.loop2 in
-    l.invariant ∙ ap isFound (later _ _ l.j (search rules) (ne_eqb _ _ c.if2.false))
+    l.invariant ∙ ap is_found (later _ _ l.j (search rules) (ne_eqb _ _ c.if2.false))
 
 search-again : tie.Need-search-preserved invariant-loop decreases-loop invariant-loop2 decreases-loop2 invariant-search decreases-search
 search-again c =
     let l = c.before.loop2 in
     let o = c.before.before.before.before.before.before.before.search in
-    o.invariant ∙ later _ _ o.i (search rules) (l.invariant ∙ ap isFound (at-end _ _ l.j c.loop2-test.false))
+    o.invariant ∙ later _ _ o.i (search rules) (l.invariant ∙ ap is_found (at_end _ _ l.j c.loop2-test.false))
 
 returns : tie.Need-returns invariant-loop decreases-loop invariant-loop2 decreases-loop2 invariant-search decreases-search
 returns c =
     let o = c.before.search in
-    at-end _ _ o.i c.search-test.false ∙ sym (o.invariant ∙ at-end _ _ o.i c.search-test.false)
+    at_end _ _ o.i c.search-test.false ∙ sym (o.invariant ∙ at_end _ _ o.i c.search-test.false)
 
 returns-2 : tie.Need-returns-2 invariant-loop decreases-loop invariant-loop2 decreases-loop2 invariant-search decreases-search
 returns-2 c =
@@ -81,10 +81,10 @@ returns-3 : tie.Need-returns-3 invariant-loop decreases-loop invariant-loop2 dec
 returns-3 c =
     let l = c.before.before.before.loop2 in
     let o = c.before.before.before.before.before.before.before.before.before.search in
-    stopped _ _ o.i (search rules) o.invariant (l.invariant ∙ ap isFound (here _ _ l.j (search rules) (eq-eqb _ _ c.if2.true)))
+    stopped _ _ o.i (search rules) o.invariant (l.invariant ∙ ap is_found (here _ _ l.j (search rules) (eq-eqb _ _ c.if2.true)))
 
-pub first-common-spec : {M : Type 1} → statement M
-first-common-spec =
+pub first_common_spec : {M : Type 1} → statement M
+first_common_spec =
     tie.close
     (tie.spec
     invariant-loop

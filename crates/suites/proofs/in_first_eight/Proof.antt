@@ -7,8 +7,8 @@ use Rattle.suites.proofs.in_first_eight.Tie as tie
 returns : tie.Need-returns
 returns c = any_found _ c.before.before.before.before.before.before.before.before.args.list.now 8 (search rules)
 
-pub in-first-eight-spec : {M : Type 1} → statement M
-in-first-eight-spec =
+pub in_first_eight_spec : {M : Type 1} → statement M
+in_first_eight_spec =
     tie.close
     (tie.spec
     (λ c. search rules)

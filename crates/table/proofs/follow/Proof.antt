@@ -9,5 +9,5 @@ returns c = rw c.before.if1.true c.when-held.ensures
 returns-2 : tie.Need-returns-2
 returns-2 c = rw c.before.if1.false c.when-not.ensures
 
-pub follow-spec : {M : Type 1} → statement M
-follow-spec = tie.close (tie.spec (λ c κs. search rules) (λ c κs. search rules) returns returns-2)
+pub follow_spec : {M : Type 1} → statement M
+follow_spec = tie.close (tie.spec (λ c κs. search rules) (λ c κs. search rules) returns returns-2)

@@ -7,9 +7,9 @@ use Rattle.table.proofs.Cells.{held, no_code}
 use Rattle.table.proofs.in_closed_unlocked.Statement.{statement}
 use Rattle.table.proofs.in_closed_unlocked.Tie as tie
 
-pub in-closed-unlocked-spec : {M : Type 1} → statement M
+pub in_closed_unlocked_spec : {M : Type 1} → statement M
 unfolding cell
-in-closed-unlocked-spec =
+in_closed_unlocked_spec =
     tie.close
     (tie.spec
     (λ c. keys (λ k. 1) (held 0) (0 ∷ []) tt _ c.match.keys1)

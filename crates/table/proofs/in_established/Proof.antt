@@ -7,9 +7,9 @@ use Rattle.table.proofs.Cells.{held, no_code}
 use Rattle.table.proofs.in_established.Statement.{statement}
 use Rattle.table.proofs.in_established.Tie as tie
 
-pub in-established-spec : {M : Type 1} → statement M
+pub in_established_spec : {M : Type 1} → statement M
 unfolding cell
-in-established-spec =
+in_established_spec =
     tie.close
     (tie.spec
     (λ c. keys (λ k. 8) (held 7) (2 ∷ []) tt _ c.match.keys1)

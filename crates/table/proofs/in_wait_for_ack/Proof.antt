@@ -7,9 +7,9 @@ use Rattle.table.proofs.Cells.{held, no_code}
 use Rattle.table.proofs.in_wait_for_ack.Statement.{statement}
 use Rattle.table.proofs.in_wait_for_ack.Tie as tie
 
-pub in-wait-for-ack-spec : {M : Type 1} → statement M
+pub in_wait_for_ack_spec : {M : Type 1} → statement M
 unfolding cell
-in-wait-for-ack-spec =
+in_wait_for_ack_spec =
     tie.close
     (tie.spec
     (λ c. keys (λ k. 4) (held 8) (3 ∷ 22 ∷ []) tt _ c.match.keys1)

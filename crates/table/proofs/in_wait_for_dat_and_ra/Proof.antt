@@ -15,9 +15,9 @@ use Rattle.table.proofs.in_wait_for_dat_and_ra.Tie as tie
 abbrev arms : List (List ℕ)
 arms = (1 ∷ 10 ∷ 12 ∷ 20 ∷ []) ∷ (16 ∷ 19 ∷ []) ∷ (14 ∷ 17 ∷ []) ∷ (13 ∷ []) ∷ []
 
-pub in-wait-for-dat-and-ra-spec : {M : Type 1} → statement M
+pub in_wait_for_dat_and_ra_spec : {M : Type 1} → statement M
 unfolding cell
-in-wait-for-dat-and-ra-spec =
+in_wait_for_dat_and_ra_spec =
     tie.close
     (tie.spec
     (λ c κs. search rules)

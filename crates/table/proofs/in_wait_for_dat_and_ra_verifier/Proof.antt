@@ -7,9 +7,9 @@ use Rattle.table.proofs.Cells.{held, no_code}
 use Rattle.table.proofs.in_wait_for_dat_and_ra_verifier.Statement.{statement}
 use Rattle.table.proofs.in_wait_for_dat_and_ra_verifier.Tie as tie
 
-pub in-wait-for-dat-and-ra-verifier-spec : {M : Type 1} → statement M
+pub in_wait_for_dat_and_ra_verifier_spec : {M : Type 1} → statement M
 unfolding cell
-in-wait-for-dat-and-ra-verifier-spec =
+in_wait_for_dat_and_ra_verifier_spec =
     tie.close
     (tie.spec
     (λ c. keys (λ k. 4) (held 6) (13 ∷ []) tt _ c.match.keys1)

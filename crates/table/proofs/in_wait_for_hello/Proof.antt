@@ -7,9 +7,9 @@ use Rattle.table.proofs.Cells.{held, no_code}
 use Rattle.table.proofs.in_wait_for_hello.Statement.{statement}
 use Rattle.table.proofs.in_wait_for_hello.Tie as tie
 
-pub in-wait-for-hello-spec : {M : Type 1} → statement M
+pub in_wait_for_hello_spec : {M : Type 1} → statement M
 unfolding cell
-in-wait-for-hello-spec =
+in_wait_for_hello_spec =
     tie.close
     (tie.spec
     (λ c. keys (λ k. 2) (held 1) (11 ∷ []) tt _ c.match.keys1)

@@ -15,9 +15,9 @@ use Rattle.table.proofs.in_wait_for_ra_prover.Tie as tie
 abbrev arms : List (List ℕ)
 arms = (1 ∷ 10 ∷ 12 ∷ 20 ∷ []) ∷ (21 ∷ []) ∷ (16 ∷ 19 ∷ []) ∷ (14 ∷ 17 ∷ []) ∷ (3 ∷ 22 ∷ []) ∷ []
 
-pub in-wait-for-ra-prover-spec : {M : Type 1} → statement M
+pub in_wait_for_ra_prover_spec : {M : Type 1} → statement M
 unfolding cell
-in-wait-for-ra-prover-spec =
+in_wait_for_ra_prover_spec =
     tie.close
     (tie.spec
     (λ c κs. search rules)

@@ -15,9 +15,9 @@ use Rattle.table.proofs.in_wait_for_ra_verifier.Tie as tie
 abbrev arms : List (List ℕ)
 arms = (1 ∷ 10 ∷ 12 ∷ 20 ∷ []) ∷ (21 ∷ []) ∷ (15 ∷ 19 ∷ []) ∷ (14 ∷ 17 ∷ []) ∷ []
 
-pub in-wait-for-ra-verifier-spec : {M : Type 1} → statement M
+pub in_wait_for_ra_verifier_spec : {M : Type 1} → statement M
 unfolding cell
-in-wait-for-ra-verifier-spec =
+in_wait_for_ra_verifier_spec =
     tie.close
     (tie.spec
     (λ c κs. search rules)

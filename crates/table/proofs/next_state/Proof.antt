@@ -13,5 +13,5 @@ returns-2 c = rw (← c.before.before.follow.ensures, eq-eqb _ _ c.before.if1.fa
 returns-3 : tie.Need-returns-3
 returns-3 c = rw (← c.before.before.follow.ensures, eq-eqb _ _ c.before.if1.false, ne_eqb _ _ c.if2.false)
 
-pub next-state-spec : {M : Type 1} → statement M
-next-state-spec = tie.close (tie.spec (λ c κs. search rules) returns returns-2 returns-3)
+pub next_state_spec : {M : Type 1} → statement M
+next_state_spec = tie.close (tie.spec (λ c κs. search rules) returns returns-2 returns-3)

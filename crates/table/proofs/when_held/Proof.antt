@@ -7,8 +7,8 @@ use Rattle.table.proofs.Cells.{locked}
 use Rattle.table.proofs.when_held.Statement.{statement}
 use Rattle.table.proofs.when_held.Tie as tie
 
-pub when-held-spec : {M : Type 1} → statement M
-when-held-spec =
+pub when_held_spec : {M : Type 1} → statement M
+when_held_spec =
     tie.close
     (tie.spec
     (λ c κs. search rules)

@@ -10,8 +10,8 @@ returns-3 : tie.Need-returns-3
 unfolding cell
 returns-3 c = rw (ne_eqb _ _ c.match.rest.0.1, ne_eqb _ _ c.match.rest.1)
 
-pub when-not-spec : {M : Type 1} → statement M
-when-not-spec =
+pub when_not_spec : {M : Type 1} → statement M
+when_not_spec =
     tie.close
     (tie.spec
     (λ c κs. search rules)

@@ -6,5 +6,5 @@ use Rattle.token.proofs.margin_too_large.Tie as tie
 returns : tie.Need-returns
 returns c = refl
 
-pub margin-too-large-spec : {M : Type 1} → statement M
-margin-too-large-spec = tie.close (tie.spec returns)
+pub margin_too_large_spec : {M : Type 1} → statement M
+margin_too_large_spec = tie.close (tie.spec returns)

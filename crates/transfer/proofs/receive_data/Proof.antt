@@ -6,5 +6,5 @@ use Rattle.transfer.proofs.receive_data.Tie as tie
 returns : tie.Need-returns
 returns c = rw c.flip.ensures
 
-pub receive-data-spec : {M : Type 1} → statement M
-receive-data-spec = tie.close (tie.spec (λ c κs. search rules) returns)
+pub receive_data_spec : {M : Type 1} → statement M
+receive_data_spec = tie.close (tie.spec (λ c κs. search rules) returns)

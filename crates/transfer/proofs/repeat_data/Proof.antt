@@ -6,5 +6,5 @@ use Rattle.transfer.proofs.repeat_data.Tie as tie
 returns : tie.Need-returns
 returns c = refl
 
-pub repeat-data-spec : {M : Type 1} → statement M
-repeat-data-spec = tie.close (tie.spec returns)
+pub repeat_data_spec : {M : Type 1} → statement M
+repeat_data_spec = tie.close (tie.spec returns)

@@ -6,5 +6,5 @@ use Rattle.transfer.proofs.send_data.Tie as tie
 returns : tie.Need-returns
 returns c = refl
 
-pub send-data-spec : {M : Type 1} → statement M
-send-data-spec = tie.close (tie.spec returns)
+pub send_data_spec : {M : Type 1} → statement M
+send_data_spec = tie.close (tie.spec returns)

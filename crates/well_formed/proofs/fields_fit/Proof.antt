@@ -6,5 +6,5 @@ use Rattle.well_formed.proofs.fields_fit.Tie as tie
 returns : tie.Need-returns
 returns c = refl
 
-pub fields-fit-spec : {M : Type 1} → statement M
-fields-fit-spec = tie.close (tie.spec returns)
+pub fields_fit_spec : {M : Type 1} → statement M
+fields_fit_spec = tie.close (tie.spec returns)

@@ -5,9 +5,9 @@ use lib.Dec.{T}
 use borrow.Author.Rules.{rules}
 use borrow.Author.Tests.{not-true, not-false}
 use Rattle.record.specs.Limits.{limits}
-use Rattle.record.specs.WellFormed.{wellFormed}
+use Rattle.record.specs.WellFormed.{well_formed}
 use Rattle.table.proofs.Finite.{and_left}
-use Rattle.record.proofs.WellFormed.{state-fits}
+use Rattle.record.proofs.WellFormed.{state_fits}
 use Rattle.well_formed.proofs.well_formed.Statement.{statement}
 use Rattle.well_formed.proofs.well_formed.Tie as tie
 
@@ -16,11 +16,11 @@ fits-state-requires c κs =
     let f = c.before.before.fields_fit in
     let g = c.before.tags-at-most in
     let t = and_left f.result g.result (subst (λ (b : Bool). T b) (sym (not-false (f.result && g.result) c.if1.false)) tt) in
-    state-fits limits c.before.before.before.args.connection (subst (λ (b : Bool). T b) f.ensures t)
+    state_fits limits c.before.before.before.args.connection (subst (λ (b : Bool). T b) f.ensures t)
 
-pub well-formed-spec : {M : Type 1} → statement M
-unfolding wellFormed
-well-formed-spec =
+pub well_formed_spec : {M : Type 1} → statement M
+unfolding well_formed
+well_formed_spec =
     tie.close
     (tie.spec
     (λ c κs. search rules)

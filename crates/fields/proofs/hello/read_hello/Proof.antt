@@ -6,17 +6,17 @@ use native.Mathlib.Omega.{arith}
 use lib.ListN.{length}
 use borrow.Author.Rules.{rules}
 use Rattle.fields.specs.Fields.{Fields, Step, Tidy, TidyStep, fields, proceed}
-use Rattle.fields.specs.Steps.{helloMarks, helloStep}
+use Rattle.fields.specs.Steps.{hello_marks, hello_step}
 use Rattle.fields.specs.declared.hello.Field.{Field}
 use Rattle.fields.specs.declared.Held.{Held}
 use Rattle.fields.specs.declared.hello.Marks.{Marks}
-use Rattle.fields.proofs.Onward.{Onward, begins, ends, stops, further, goes_on, tidy-first}
+use Rattle.fields.proofs.Onward.{Onward, begins, ends, stops, further, goes_on, tidy_first}
 use Rattle.fields.proofs.hello.read_hello.Statement.{statement}
 use Rattle.fields.proofs.hello.read_hello.Tie as tie
 
 -- What the locals hold.
 abbrev state : Marks → Held → Fields
-state read held = fields (helloMarks read) held.place held.size 0 held.provers held.verifiers
+state read held = fields (hello_marks read) held.place held.size 0 held.provers held.verifiers
 
 abbrev invariant-loop : tie.invariant-loop
 invariant-loop bytes start provers₀ verifiers₀ read₀ held₀ at₀ provers verifiers read held at =
@@ -28,7 +28,7 @@ decreases-loop bytes start provers₀ verifiers₀ read₀ held₀ at₀ provers
 loop-holds : tie.Need-loop-init invariant-loop decreases-loop
 loop-holds c =
     let a = c.before.args in
-    (begins 1 a.bytes.now a.start a.provers.now a.verifiers.now, tidy-first a.provers.now a.verifiers.now c.before.requires.0 c.before.requires.1)
+    (begins 1 a.bytes.now a.start a.provers.now a.verifiers.now, tidy_first a.provers.now a.verifiers.now c.before.requires.0 c.before.requires.1)
 
 -- The fields before the one that is read, and the lists after it.
 abbrev before : (c : tie.After-next-field invariant-loop decreases-loop) → Fields
@@ -36,39 +36,39 @@ before c =
     let l = c.before.before.before.before.loop in
     state l.read l.held
 
-abbrev provers-after : (c : tie.After-next-field invariant-loop decreases-loop) → List ℕ
-provers-after c = c.«next_field».new.1.1.1.0
+abbrev provers_after : (c : tie.After-next-field invariant-loop decreases-loop) → List ℕ
+provers_after c = c.«next_field».new.1.1.1.0
 
-abbrev verifiers-after : (c : tie.After-next-field invariant-loop decreases-loop) → List ℕ
-verifiers-after c = c.«next_field».new.1.1.1.1.0
+abbrev verifiers_after : (c : tie.After-next-field invariant-loop decreases-loop) → List ℕ
+verifiers_after c = c.«next_field».new.1.1.1.1.0
 
-stepped : (c : tie.After-next-field invariant-loop decreases-loop) (r : Field) → c.«next_field».result ≡ r → helloStep c.«next_field».result (before c) ≡ helloStep r (before c)
-stepped c r e = ap (λ (q : Field). helloStep q (before c)) e
+stepped : (c : tie.After-next-field invariant-loop decreases-loop) (r : Field) → c.«next_field».result ≡ r → hello_step c.«next_field».result (before c) ≡ hello_step r (before c)
+stepped c r e = ap (λ (q : Field). hello_step q (before c)) e
 
 returns : tie.Need-returns invariant-loop decreases-loop
 returns c =
     let n = c.before.before.before in (
-      stops _ _ _ (before n) _ _ _ n.before.before.before.before.loop.invariant.0 n.before.before.before.«loop-test».true _ (provers-after n) (verifiers-after n) (n.«next_field».ensures (before n) refl) _
+      stops _ _ _ (before n) _ _ _ n.before.before.before.before.loop.invariant.0 n.before.before.before.«loop-test».true _ (provers_after n) (verifiers_after n) (n.«next_field».ensures (before n) refl) _
           (stepped n _ c.before.field.given.1),
       tt,
     )
 
 -- What is read goes on from there.
-module _ (c : tie.After-next-field invariant-loop decreases-loop) (read : Fields) (after : ℕ) (e : helloStep c.«next_field».result (before c) ≡ proceed read after) where
+module _ (c : tie.After-next-field invariant-loop decreases-loop) (read : Fields) (after : ℕ) (e : hello_step c.«next_field».result (before c) ≡ proceed read after) where
   less : (c.before.before.before.before.loop.at < after) × (after ≤ length c.before.before.before.before.before.before.args.bytes.now)
-  less = further _ _ _ (before c) _ _ _ c.before.before.before.before.loop.invariant.0 c.before.before.before.«loop-test».true _ (provers-after c) (verifiers-after c) (c.«next_field».ensures (before c) refl) read after e
+  less = further _ _ _ (before c) _ _ _ c.before.before.before.before.loop.invariant.0 c.before.before.before.«loop-test».true _ (provers_after c) (verifiers_after c) (c.«next_field».ensures (before c) refl) read after e
 
-  again : Onward 1 c.before.before.before.before.before.before.args.bytes.now c.before.before.before.before.before.before.args.start read (provers-after c) (verifiers-after c) after
-      × Tidy read (provers-after c) (verifiers-after c)
+  again : Onward 1 c.before.before.before.before.before.before.args.bytes.now c.before.before.before.before.before.before.args.start read (provers_after c) (verifiers_after c) after
+      × Tidy read (provers_after c) (verifiers_after c)
   again = (
-    goes_on _ _ _ (before c) _ _ _ c.before.before.before.before.loop.invariant.0 c.before.before.before.«loop-test».true _ (provers-after c) (verifiers-after c) (c.«next_field».ensures (before c) refl) read after e,
-    subst (λ (q : Step). TidyStep q (provers-after c) (verifiers-after c)) e ((c.«next_field».ensures (before c) refl).tidies c.before.before.before.before.loop.invariant.1),
+    goes_on _ _ _ (before c) _ _ _ c.before.before.before.before.loop.invariant.0 c.before.before.before.«loop-test».true _ (provers_after c) (verifiers_after c) (c.«next_field».ensures (before c) refl) read after e,
+    subst (λ (q : Step). TidyStep q (provers_after c) (verifiers_after c)) e ((c.«next_field».ensures (before c) refl).tidies c.before.before.before.before.loop.invariant.1),
   )
 
 add_at : tie.Need-overflow-add-at invariant-loop decreases-loop
 add_at c =
     let n = c.before.before.before in
-    omega (arith, (less n _ _ (stepped n _ c.before.field2.given.1)).1, n.before.before.before.before.before.before.well-formed.0)
+    omega (arith, (less n _ _ (stepped n _ c.before.field2.given.1)).1, n.before.before.before.before.before.before.well_formed_lem.0)
 
 loop-less : tie.Need-loop-smaller invariant-loop decreases-loop
 loop-less c =
@@ -94,8 +94,8 @@ returns-2 c =
     let t = l.invariant.1 in
     (ends _ _ _ (state l.read l.held) _ _ _ l.invariant.0 c.«loop-test».false, t)
 
-pub read-hello-spec : {M : Type 1} → statement M
-read-hello-spec =
+pub read_hello_spec : {M : Type 1} → statement M
+read_hello_spec =
     tie.close
     (tie.spec
     invariant-loop

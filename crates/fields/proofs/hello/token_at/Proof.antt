@@ -1,14 +1,14 @@
 -- `fields::hello::token_at` meets its contract.
 use borrow.Author.Rules.{rules}
-use Rattle.fields.proofs.Content.{bytes-content}
+use Rattle.fields.proofs.Content.{bytes_content}
 use Rattle.fields.proofs.hello.token_at.Statement.{statement}
 use Rattle.fields.proofs.hello.token_at.Tie as tie
 
 returns : tie.Need-returns
-returns c = bytes-content _ _ _ c.before.before.before.«block_at».ensures _ c.before.part.given.1
+returns c = bytes_content _ _ _ c.before.before.before.«block_at».ensures _ c.before.part.given.1
 
 returns-2 : tie.Need-returns-2
-returns-2 c = bytes-content _ _ _ c.before.before.before.«block_at».ensures _ c.before.part2.given.1
+returns-2 c = bytes_content _ _ _ c.before.before.before.«block_at».ensures _ c.before.part2.given.1
 
-pub token-at-spec : {M : Type 1} → statement M
-token-at-spec = tie.close (tie.spec (λ c κs. search rules) (λ c. search rules) (λ c. search rules) returns returns-2)
+pub token_at_spec : {M : Type 1} → statement M
+token_at_spec = tie.close (tie.spec (λ c κs. search rules) (λ c. search rules) (λ c. search rules) returns returns-2)

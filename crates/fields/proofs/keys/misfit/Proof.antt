@@ -2,5 +2,5 @@
 use Rattle.fields.proofs.keys.misfit.Statement.{statement}
 use Rattle.fields.proofs.keys.misfit.Tie as tie
 
-pub misfit-spec : {M : Type 1} → statement M
-misfit-spec = tie.close (tie.spec (λ c. rw c.if1.true) (λ c. rw c.if1.false))
+pub misfit_spec : {M : Type 1} → statement M
+misfit_spec = tie.close (tie.spec (λ c. rw c.if1.true) (λ c. rw c.if1.false))

@@ -7,7 +7,7 @@ use native.Mathlib.Omega.{arith}
 use lib.ListN.{length}
 use borrow.Author.Rules.{rules}
 use Rattle.fields.specs.Fields.{Fields, fields, proceed}
-use Rattle.fields.specs.Steps.{plainMarks, plainStep}
+use Rattle.fields.specs.Steps.{plain_marks, plain_step}
 use Rattle.fields.specs.declared.Span.{Span}
 use Rattle.fields.specs.declared.plain.Field.{Field}
 use Rattle.fields.proofs.Onward.{Onward, begins, ends, stops, further, goes_on}
@@ -16,7 +16,7 @@ use Rattle.fields.proofs.plain.read_plain.Tie as tie
 
 -- What the locals hold.
 abbrev state : (bytes_read bit-read : Bool) → Span → ℕ → Fields
-state bytes_read bit-read part bit = fields (plainMarks bytes_read bit-read) part.place part.size bit 0 0
+state bytes_read bit-read part bit = fields (plain_marks bytes_read bit-read) part.place part.size bit 0 0
 
 abbrev invariant-loop : tie.invariant-loop
 invariant-loop message bytes start bytes-read₀ bit-read₀ part₀ bit₀ at₀ bytes_read bit-read part bit at =
@@ -34,8 +34,8 @@ loop-holds c =
 abbrev before : (c : tie.After-next-field invariant-loop decreases-loop) → Fields
 before c = let l = c.before.before.loop in state l.«bytes_read» l.«bit-read» l.part l.bit
 
-stepped : (c : tie.After-next-field invariant-loop decreases-loop) (r : Field) → c.«next_field».result ≡ r → plainStep c.«next_field».result (before c) ≡ plainStep r (before c)
-stepped c r e = ap (λ (q : Field). plainStep q (before c)) e
+stepped : (c : tie.After-next-field invariant-loop decreases-loop) (r : Field) → c.«next_field».result ≡ r → plain_step c.«next_field».result (before c) ≡ plain_step r (before c)
+stepped c r e = ap (λ (q : Field). plain_step q (before c)) e
 
 returns : tie.Need-returns invariant-loop decreases-loop
 returns c =
@@ -45,7 +45,7 @@ returns c =
     (stepped n _ c.before.field.given.1)
 
 -- What is read of bytes and of a bit goes on from there.
-module _ (c : tie.After-next-field invariant-loop decreases-loop) (read : Fields) (after : ℕ) (e : plainStep c.«next_field».result (before c) ≡ proceed read after) where
+module _ (c : tie.After-next-field invariant-loop decreases-loop) (read : Fields) (after : ℕ) (e : plain_step c.«next_field».result (before c) ≡ proceed read after) where
   less : (c.before.before.loop.at < after) × (after ≤ length c.before.before.before.before.args.bytes.now)
   less = further _ _ _ (before c) [] [] _ c.before.before.loop.invariant c.before.«loop-test».true _ [] [] (c.«next_field».ensures (before c) refl [] []) read after e
 
@@ -55,7 +55,7 @@ module _ (c : tie.After-next-field invariant-loop decreases-loop) (read : Fields
 add_at : tie.Need-overflow-add-at invariant-loop decreases-loop
 add_at c =
     let n = c.before.before.before in
-    omega (arith, (less n _ _ (stepped n _ c.before.field2.given.1)).1, n.before.before.before.before.well-formed.1.0)
+    omega (arith, (less n _ _ (stepped n _ c.before.field2.given.1)).1, n.before.before.before.before.well_formed_lem.1.0)
 
 loop-less : tie.Need-loop-smaller invariant-loop decreases-loop
 loop-less c =
@@ -80,8 +80,8 @@ returns-2 c =
     let l = c.before.loop in
     ends _ _ _ (state l.«bytes_read» l.«bit-read» l.part l.bit) [] [] _ l.invariant c.«loop-test».false
 
-pub read-plain-spec : {M : Type 1} → statement M
-read-plain-spec =
+pub read_plain_spec : {M : Type 1} → statement M
+read_plain_spec =
     tie.close
     (tie.spec
     invariant-loop

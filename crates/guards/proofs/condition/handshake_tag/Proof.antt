@@ -3,8 +3,8 @@ use borrow.Author.Tests.{ne_eqb}
 use Rattle.guards.proofs.condition.handshake_tag.Statement.{statement}
 use Rattle.guards.proofs.condition.handshake_tag.Tie as tie
 
-pub handshake-tag-spec : {M : Type 1} → statement M
-handshake-tag-spec =
+pub handshake_tag_spec : {M : Type 1} → statement M
+handshake_tag_spec =
     tie.close
     (tie.spec
     (λ c. rw c.match.keys1)

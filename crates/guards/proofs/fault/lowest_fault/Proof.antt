@@ -4,8 +4,8 @@ use borrow.Author.Tests.{lt-ltb, le-ltb, not-true, not-false}
 use Rattle.guards.proofs.fault.lowest_fault.Statement.{statement}
 use Rattle.guards.proofs.fault.lowest_fault.Tie as tie
 
-pub lowest-fault-spec : {M : Type 1} → statement M
-lowest-fault-spec =
+pub lowest_fault_spec : {M : Type 1} → statement M
+lowest_fault_spec =
     tie.close
     (tie.spec
     (λ c. rw (lt-ltb _ _ c.if1.true))

@@ -9,8 +9,8 @@ returns-2 c =
     let f = n.before.before in
     rw (c.number-in2.ensures, c.before.as-number2.ensures, c.before.before.is-found2.ensures, n.number_in.ensures, n.before.as_number.ensures, f.is_found.ensures, f.before.before.choice.given.1)
 
-pub numbers-in-spec : {M : Type 1} → statement M
-numbers-in-spec =
+pub numbers_in_spec : {M : Type 1} → statement M
+numbers_in_spec =
     tie.close
     (tie.spec
     (λ c. search rules)

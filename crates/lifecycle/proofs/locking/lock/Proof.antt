@@ -3,8 +3,8 @@ use borrow.Author.Rules.{rules}
 use Rattle.lifecycle.proofs.locking.lock.Statement.{statement}
 use Rattle.lifecycle.proofs.locking.lock.Tie as tie
 
-pub lock-spec : {M : Type 1} → statement M
-lock-spec =
+pub lock_spec : {M : Type 1} → statement M
+lock_spec =
     tie.close
     (tie.spec
     (λ c κs. search rules)

@@ -3,8 +3,8 @@ use borrow.Author.Rules.{rules}
 use Rattle.messages.proofs.flat.flat_of.Statement.{statement}
 use Rattle.messages.proofs.flat.flat_of.Tie as tie
 
-pub flat-of-spec : {M : Type 1} → statement M
-flat-of-spec =
+pub flat_of_spec : {M : Type 1} → statement M
+flat_of_spec =
     tie.close
     (tie.spec
     (λ c. search rules)

@@ -11,8 +11,8 @@ invariant-loop code each₀ state₀ each state = state ≤ 9
 abbrev decreases-loop : tie.decreases-loop
 decreases-loop code each₀ state₀ each state = 9 - state
 
-pub locks-spec : {M : Type 1} → statement M
-locks-spec =
+pub locks_spec : {M : Type 1} → statement M
+locks_spec =
     tie.close
     (tie.spec invariant-loop decreases-loop
     (λ c. omega arith)

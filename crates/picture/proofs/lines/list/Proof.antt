@@ -11,8 +11,8 @@ invariant-loop from to begun₀ code₀ begun code = code ≤ 24
 abbrev decreases-loop : tie.decreases-loop
 decreases-loop from to begun₀ code₀ begun code = 24 - code
 
-pub list-spec : {M : Type 1} → statement M
-list-spec =
+pub list_spec : {M : Type 1} → statement M
+list_spec =
     tie.close
     (tie.spec invariant-loop decreases-loop
     (λ c. omega arith)

@@ -11,8 +11,8 @@ invariant-loop code₀ code = code ≤ 24
 abbrev decreases-loop : tie.decreases-loop
 decreases-loop code₀ code = 24 - code
 
-pub events-spec : {M : Type 1} → statement M
-events-spec =
+pub events_spec : {M : Type 1} → statement M
+events_spec =
     tie.close
     (tie.spec invariant-loop decreases-loop
     (λ c. omega arith)

@@ -10,8 +10,8 @@ invariant-loop digits most value₀ i₀ i-end value i = (i ≤ i-end) × (value
 abbrev decreases-loop : tie.decreases-loop
 decreases-loop digits most value₀ i₀ i-end value i = i-end - i
 
-pub decimal-spec : {M : Type 1} → statement M
-decimal-spec =
+pub decimal_spec : {M : Type 1} → statement M
+decimal_spec =
     tie.close
     (tie.spec invariant-loop decreases-loop
     (λ c. search rules)

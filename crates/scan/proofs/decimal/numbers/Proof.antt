@@ -12,8 +12,8 @@ invariant-loop row group out₀ i₀ i-end out i = (i ≤ i-end) × (length out 
 abbrev decreases-loop : tie.decreases-loop
 decreases-loop row group out₀ i₀ i-end out i = i-end - i
 
-pub numbers-spec : {M : Type 1} → statement M
-numbers-spec =
+pub numbers_spec : {M : Type 1} → statement M
+numbers_spec =
     tie.close
     (tie.spec invariant-loop decreases-loop
     (λ c. search rules)

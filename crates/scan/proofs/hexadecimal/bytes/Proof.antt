@@ -12,8 +12,8 @@ invariant-loop row group out₀ len₀ i₀ i-end out len i = (i ≤ i-end) × (
 abbrev decreases-loop : tie.decreases-loop
 decreases-loop row group out₀ len₀ i₀ i-end out len i = i-end - i
 
-pub bytes-spec : {M : Type 1} → statement M
-bytes-spec =
+pub bytes_spec : {M : Type 1} → statement M
+bytes_spec =
     tie.close
     (tie.spec invariant-loop decreases-loop
     (λ c. search rules)

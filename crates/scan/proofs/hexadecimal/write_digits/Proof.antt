@@ -12,8 +12,8 @@ invariant-loop digits out₀ len end₀ i₀ out end i = (i ≤ length digits) �
 abbrev decreases-loop : tie.decreases-loop
 decreases-loop digits out₀ len end₀ i₀ out end i = length digits - i
 
-pub write-digits-spec : {M : Type 1} → statement M
-write-digits-spec =
+pub write_digits_spec : {M : Type 1} → statement M
+write_digits_spec =
     tie.close
     (tie.spec invariant-loop decreases-loop
     (λ c. search rules)

@@ -12,8 +12,8 @@ invariant-loop out₀ len count byte i₀ i-end out i = (i ≤ i-end) × (length
 abbrev decreases-loop : tie.decreases-loop
 decreases-loop out₀ len count byte i₀ i-end out i = i-end - i
 
-pub write-repeated-spec : {M : Type 1} → statement M
-write-repeated-spec =
+pub write_repeated_spec : {M : Type 1} → statement M
+write_repeated_spec =
     tie.close
     (tie.spec invariant-loop decreases-loop
     (λ c. search rules)

@@ -12,8 +12,8 @@ invariant-loop list from₀ t4 from = from ≤ length list
 abbrev decreases-loop : tie.decreases-loop
 decreases-loop list from₀ t4 from = length list - from
 
-pub bytes-spec : {M : Type 1} → statement M
-bytes-spec =
+pub bytes_spec : {M : Type 1} → statement M
+bytes_spec =
     tie.close
     (tie.spec invariant-loop decreases-loop
     (λ c. search rules)

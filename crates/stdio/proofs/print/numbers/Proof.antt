@@ -11,8 +11,8 @@ invariant-loop list i₀ i-end i = i ≤ i-end
 abbrev decreases-loop : tie.decreases-loop
 decreases-loop list i₀ i-end i = i-end - i
 
-pub numbers-spec : {M : Type 1} → statement M
-numbers-spec =
+pub numbers_spec : {M : Type 1} → statement M
+numbers_spec =
     tie.close
     (tie.spec invariant-loop decreases-loop
     (λ c. search rules)

@@ -5,13 +5,13 @@ use Rattle.stdio.proofs.print.run_end.Statement.{statement}
 use Rattle.stdio.proofs.print.run_end.Tie as tie
 
 abbrev invariant-loop : tie.invariant-loop
-invariant-loop list from byte at₀ at-end at = (from < at) × (at ≤ at-end)
+invariant-loop list from byte at₀ at_end at = (from < at) × (at ≤ at_end)
 
 abbrev decreases-loop : tie.decreases-loop
-decreases-loop list from byte at₀ at-end at = at-end - at
+decreases-loop list from byte at₀ at_end at = at_end - at
 
-pub run-end-spec : {M : Type 1} → statement M
-run-end-spec =
+pub run_end_spec : {M : Type 1} → statement M
+run_end_spec =
     tie.close
     (tie.spec invariant-loop decreases-loop
     (λ c. search rules)

@@ -24,33 +24,33 @@ low h = rw (to_z_pos w64 h) (tt, h)
 abbrev Test : ℤ → Bool → Type 0
 Test z t = lt_z (to_z w64 (of_z w64 z)) (pos 0) ≡ t
 
-from-0 : (z : ℤ) → SFits w64 z → Test z false → Natural (to_z w64 (of_z w64 z))
-from-0 (pos n) f h = low f.sfits
-from-0 (negsuc n) f h = absurd (true≢false (rw (to_z-of_z f) at h))
+from_0 : (z : ℤ) → SFits w64 z → Test z false → Natural (to_z w64 (of_z w64 z))
+from_0 (pos n) f h = low f.sfits
+from_0 (negsuc n) f h = absurd (true≢false (rw (to_z-of_z f) at h))
 
-below-0 : (z : ℤ) → SFits w64 z → Test z true → Natural (to_z w64 (2 ^ 64 - 1 - of_z w64 z))
-below-0 (pos n) f h = let l = ltb-true n 0 (rw (to_z-of_z f) at h) in absurd (omega arith)
-below-0 (negsuc n) f h =
+below_0 : (z : ℤ) → SFits w64 z → Test z true → Natural (to_z w64 (2 ^ 64 - 1 - of_z w64 z))
+below_0 (pos n) f h = let l = ltb-true n 0 (rw (to_z-of_z f) at h) in absurd (omega arith)
+below_0 (negsuc n) f h =
     let same : n ≡ 2 ^ 64 - 1 - (2 ^ 64 - suc n) = omega (arith, f.sfits) in
     subst (λ (m : ℕ). Natural (to_z w64 m)) same (low f.sfits)
 
 cast-print-decimal : tie.Need-overflow-cast-print-decimal
 cast-print-decimal c =
-    let n = below-0 _ c.before.before.before.ranges.z c.before.before.if1.true in
+    let n = below_0 _ c.before.before.before.ranges.z c.before.before.if1.true in
     (n.0, omega arith)
 
 add-print-decimal : tie.Need-overflow-add-print-decimal
 add-print-decimal c =
-    let n = below-0 _ c.before.before.before.ranges.z c.before.before.if1.true in
+    let n = below_0 _ c.before.before.before.ranges.z c.before.before.if1.true in
     omega (arith, n.1)
 
 cast-number : tie.Need-overflow-cast-number
 cast-number c =
-    let n = from-0 _ c.before.ranges.z c.if1.false in
+    let n = from_0 _ c.before.ranges.z c.if1.false in
     (n.0, omega arith)
 
-pub signed-spec : {M : Type 1} → statement M
-signed-spec =
+pub signed_spec : {M : Type 1} → statement M
+signed_spec =
     tie.close
     (tie.spec
     (λ c. search rules)

@@ -6,5 +6,5 @@ use Rattle.well_formed.proofs.by_state.fits_wait_for_dat_and_ra.Tie as tie
 returns : tie.Need-returns
 returns c = refl
 
-pub fits-wait-for-dat-and-ra-spec : {M : Type 1} → statement M
-fits-wait-for-dat-and-ra-spec = tie.close (tie.spec returns)
+pub fits_wait_for_dat_and_ra_spec : {M : Type 1} → statement M
+fits_wait_for_dat_and_ra_spec = tie.close (tie.spec returns)

@@ -6,8 +6,8 @@ use Rattle.wire.proofs.Places.{after_read, runs_past, within}
 use Rattle.wire.proofs.block.block_at.Statement.{statement}
 use Rattle.wire.proofs.block.block_at.Tie as tie
 
-pub block-at-spec : {M : Type 1} → statement M
-block-at-spec =
+pub block_at_spec : {M : Type 1} → statement M
+block_at_spec =
     tie.close
     (tie.spec
     (λ c κs. search rules)

@@ -6,11 +6,11 @@ use native.Mathlib.Omega.{arith}
 use lib.ListN.{length, length-append}
 use borrow.Author.Rules.{rules}
 use Rattle.fault.specs.Fault.{judged}
-use Rattle.wire.specs.Layout.{entriesFrom}
-use Rattle.wire.specs.Lists.{ofEntries, suitesFrom, entries, padded}
+use Rattle.wire.specs.Layout.{entries_from}
+use Rattle.wire.specs.Lists.{of_entries, suites_from, entries, padded}
 use Rattle.wire.specs.Bytes.{list_from}
 use Rattle.wire.specs.Parts.{listed, number_of}
-use Rattle.wire.proofs.Lists.{entry-faulty, one-too-many, entry-taken, list-ends, one-stored, padded-entries}
+use Rattle.wire.proofs.Lists.{entry_faulty, one_too_many, entry_taken, list_ends, one_stored, padded_entries}
 use Rattle.wire.proofs.Places.{after_read}
 use Rattle.wire.proofs.list.entries.Statement.{statement}
 use Rattle.wire.proofs.list.entries.Tie as tie
@@ -21,7 +21,7 @@ invariant-loop bytes start suites₀ count₀ at₀ suites count at =
     × (length read ≡ count)
     × (count ≤ 16)
     × (suites ≡ padded read)
-    × (judged (ofEntries bytes (16 - count) (entriesFrom bytes at)) (listed (read ++ suitesFrom bytes at) (length bytes)) ≡ list_from bytes start)
+    × (judged (of_entries bytes (16 - count) (entries_from bytes at)) (listed (read ++ suites_from bytes at) (length bytes)) ≡ list_from bytes start)
 
 abbrev decreases-loop : tie.decreases-loop
 decreases-loop bytes start suites₀ count₀ at₀ suites count at = length bytes - at
@@ -34,7 +34,7 @@ returns : tie.Need-returns invariant-loop decreases-loop
 returns c =
     let l = c.before.before.before.before.before.before.loop in
     let e = sym c.before.before.before.before.entry.ensures ∙ ap number_of c.before.before.read.given.1 in
-    (sym (entry-faulty _ l.at c.before.before.before.before.before.loop-test.true _ (16 - l.count) _ e) ∙ l.invariant.4, refl)
+    (sym (entry_faulty _ l.at c.before.before.before.before.before.loop-test.true _ (16 - l.count) _ e) ∙ l.invariant.4, refl)
 
 returns-2 : tie.Need-returns-2 invariant-loop decreases-loop
 returns-2 c =
@@ -42,8 +42,8 @@ returns-2 c =
     let s = c.before.before.before.before.before.before.before.before.before.args.bytes.now in
     let e = sym c.before.before.before.before.before.entry.ensures ∙ ap number_of c.before.before.before.read2.given.1 in
     let full : 16 - l.count ≡ 0 = omega (arith, c.before.if1.true) in (
-      sym (ap (λ (n : ℕ). judged (ofEntries s n (entriesFrom s l.at)) (listed (l.invariant.0 ++ suitesFrom s l.at) (length s))) full
-          ∙ one-too-many s l.at c.before.before.before.before.before.before.loop-test.true _ _ e _) ∙ l.invariant.4,
+      sym (ap (λ (n : ℕ). judged (of_entries s n (entries_from s l.at)) (listed (l.invariant.0 ++ suites_from s l.at) (length s))) full
+          ∙ one_too_many s l.at c.before.before.before.before.before.before.loop-test.true _ _ e _) ∙ l.invariant.4,
       refl,
     )
 
@@ -67,9 +67,9 @@ loop-again c =
       l.invariant.0 ++ (suite ∷ []),
       length-append l.invariant.0 (suite ∷ []) ∙ ap (λ (n : ℕ). n + 1) l.invariant.1,
       omega (arith, room c),
-      rw (l.invariant.3, ← l.invariant.1) (one-stored l.invariant.0 suite (omega (arith, room c, l.invariant.1))),
-      entry-taken s l.at c.before.before.before.before.before.loop-test.true suite _ e (16 - (l.count + 1)) l.invariant.0
-          ∙ ap (λ (n : ℕ). judged (ofEntries s n (entriesFrom s l.at)) (listed (l.invariant.0 ++ suitesFrom s l.at) (length s))) (sym more)
+      rw (l.invariant.3, ← l.invariant.1) (one_stored l.invariant.0 suite (omega (arith, room c, l.invariant.1))),
+      entry_taken s l.at c.before.before.before.before.before.loop-test.true suite _ e (16 - (l.count + 1)) l.invariant.0
+          ∙ ap (λ (n : ℕ). judged (of_entries s n (entries_from s l.at)) (listed (l.invariant.0 ++ suites_from s l.at) (length s))) (sym more)
           ∙ l.invariant.4,
     )
 
@@ -77,12 +77,12 @@ returns-3 : tie.Need-returns-3 invariant-loop decreases-loop
 returns-3 c =
     let l = c.before.loop in
     let all : entries l.count l.suites ≡ l.invariant.0 =
-    rw (l.invariant.3, ← l.invariant.1) (padded-entries l.invariant.0 (omega (arith, l.invariant.1, l.invariant.2)))
+    rw (l.invariant.3, ← l.invariant.1) (padded_entries l.invariant.0 (omega (arith, l.invariant.1, l.invariant.2)))
     in
-    (rw (all) (list-ends _ l.at (16 - l.count) l.invariant.0 c.loop-test.false ∙ l.invariant.4), (l.invariant.2, rw (all) l.invariant.3))
+    (rw (all) (list_ends _ l.at (16 - l.count) l.invariant.0 c.loop-test.false ∙ l.invariant.4), (l.invariant.2, rw (all) l.invariant.3))
 
-pub entries-spec : {M : Type 1} → statement M
-entries-spec =
+pub entries_spec : {M : Type 1} → statement M
+entries_spec =
     tie.close
     (tie.spec
     invariant-loop

@@ -4,7 +4,7 @@ use native.Mathlib.Omega.{arith}
 use borrow.Author.Rules.{rules}
 use lib.Seq.{length-take-le}
 use Rattle.wire.specs.Parts.{block_of}
-use Rattle.wire.proofs.Lists.{packed-faulty, packed-list}
+use Rattle.wire.proofs.Lists.{packed_faulty, packed_list}
 use Rattle.wire.proofs.Places.{block_within}
 use Rattle.wire.proofs.list.packed_at.Statement.{statement}
 use Rattle.wire.proofs.list.packed_at.Tie as tie
@@ -12,7 +12,7 @@ use Rattle.wire.proofs.list.packed_at.Tie as tie
 add-end : tie.Need-overflow-add-end
 add-end c =
     let e = sym c.before.before.before.«block_at».ensures ∙ ap block_of c.before.part2.given.1 in
-    omega (arith, (block_within _ _ _ _ e).1, c.before.before.before.before.before.before.well-formed.0)
+    omega (arith, (block_within _ _ _ _ e).1, c.before.before.before.before.before.before.well_formed_lem.0)
 
 slice-aggregate-entries : tie.Need-slice-aggregate-entries
 slice-aggregate-entries c =
@@ -22,15 +22,15 @@ slice-aggregate-entries c =
 returns : tie.Need-returns
 returns c =
     let e = sym c.before.before.before.«block_at».ensures ∙ ap block_of c.before.part.given.1 in
-    (sym (packed-faulty _ _ _ e), refl)
+    (sym (packed_faulty _ _ _ e), refl)
 
 returns-2 : tie.Need-returns-2
 returns-2 c =
     let e = sym c.before.before.before.before.before.before.«block_at».ensures ∙ ap block_of c.before.before.before.before.part2.given.1 in
-    (c.entries.ensures.0 ∙ sym (packed-list _ _ _ _ e), c.entries.ensures.1)
+    (c.entries.ensures.0 ∙ sym (packed_list _ _ _ _ e), c.entries.ensures.1)
 
-pub packed-at-spec : {M : Type 1} → statement M
-packed-at-spec =
+pub packed_at_spec : {M : Type 1} → statement M
+packed_at_spec =
     tie.close
     (tie.spec
     (λ c κs. search rules)

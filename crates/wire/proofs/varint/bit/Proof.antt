@@ -4,8 +4,8 @@ use borrow.Author.Tests.{lt-ltb, le-ltb}
 use Rattle.wire.proofs.varint.bit.Statement.{statement}
 use Rattle.wire.proofs.varint.bit.Tie as tie
 
-pub bit-spec : {M : Type 1} → statement M
-bit-spec =
+pub bit_spec : {M : Type 1} → statement M
+bit_spec =
     tie.close
     (tie.spec
     (λ c κs. search rules)

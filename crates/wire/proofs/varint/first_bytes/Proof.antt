@@ -51,16 +51,16 @@ returns-2 c =
     ∙ rw (e)
 
 -- A byte that announces more has seven bits besides.
-seven-bits : (c : tie.Else2 invariant-loop decreases-loop) → c.before.wide.result - 128 < 128
-seven-bits c = omega (arith, c.before.wide.ensures, c.before.before.shared-slice-known2.given c.before.before.before.before.before.loop.at)
+seven_bits : (c : tie.Else2 invariant-loop decreases-loop) → c.before.wide.result - 128 < 128
+seven_bits c = omega (arith, c.before.wide.ensures, c.before.before.shared-slice-known2.given c.before.before.before.before.before.loop.at)
 
 mul_low : tie.Need-overflow-mul-low invariant-loop decreases-loop
-mul_low c = omega (arith, weight c.before.before.before, product c.before.before.before.before.before.loop.scale _ (seven-bits c))
+mul_low c = omega (arith, weight c.before.before.before, product c.before.before.before.before.before.loop.scale _ (seven_bits c))
 
 add_low : tie.Need-overflow-add-low invariant-loop decreases-loop
 add_low c =
     let l = c.before.before.before.before.before.loop in
-    omega (arith, weight c.before.before.before, product l.scale _ (seven-bits c), l.invariant.2)
+    omega (arith, weight c.before.before.before, product l.scale _ (seven_bits c), l.invariant.2)
 
 loop-again : tie.Need-loop-preserved invariant-loop decreases-loop
 loop-again c =
@@ -70,7 +70,7 @@ loop-again c =
     let n : 10 - l.at ≡ suc (10 - (l.at + 1)) = omega (arith, c.before.before.before.before.loop-test.true, c.before.before.before.before.before.before.before.requires) in (
       omega arith,
       heavier l.at l.scale l.invariant.1,
-      omega (arith, product l.scale _ (seven-bits c), l.invariant.2),
+      omega (arith, product l.scale _ (seven_bits c), l.invariant.2),
       l.invariant.3
           ∙ ap (λ (k : ℕ). behind l.low l.scale l.at (said k (drop l.at b))) n
           ∙ rw (e) (more b l.low l.scale l.at c.before.before.before.if1.false (10 - (l.at + 1)) (omega (arith, e, c.if2.false))),
@@ -83,8 +83,8 @@ returns-3 c =
     let e : l.at ≡ m = omega (arith, c.loop-test.false, l.invariant.0) in
     l.invariant.3 ∙ rw (l.invariant.1, e)
 
-pub first-bytes-spec : {M : Type 1} → statement M
-first-bytes-spec =
+pub first_bytes_spec : {M : Type 1} → statement M
+first_bytes_spec =
     tie.close
     (tie.spec
     invariant-loop

@@ -4,8 +4,8 @@ use borrow.Author.Tests.{lt-ltb, le-ltb}
 use Rattle.wire.proofs.varint.fitting.Statement.{statement}
 use Rattle.wire.proofs.varint.fitting.Tie as tie
 
-pub fitting-spec : {M : Type 1} → statement M
-fitting-spec =
+pub fitting_spec : {M : Type 1} → statement M
+fitting_spec =
     tie.close
     (tie.spec
     (λ c. rw (lt-ltb 4294967295 _ c.if1.true))

@@ -4,8 +4,8 @@ use mathlib.Core.List.{List}
 use Prim.Native.Nat.{ℕ, ◌-◌, ◌<◌}
 use native.Mathlib.Omega.{arith}
 use borrow.Author.Rules.{rules}
-use Rattle.wire.specs.Varint.{said, numberFrom, number_at}
-use Rattle.wire.proofs.Varints.{from_place, none-there, one_byte, two_bytes}
+use Rattle.wire.specs.Varint.{said, number_from, number_at}
+use Rattle.wire.proofs.Varints.{from_place, none_there, one_byte, two_bytes}
 use Rattle.wire.proofs.varint.number.Statement.{statement}
 use Rattle.wire.proofs.varint.number.Tie as tie
 
@@ -23,13 +23,13 @@ returns-4 : tie.Need-returns-4
 unfolding number_at
 returns-4 c =
     let a = c.before.before.before.before.before.before.before.before.args in
-    c.«long-number».ensures ∙ ap (λ (l : List ℕ). numberFrom a.place (said 10 l)) (from_place a.bytes.now a.place)
+    c.«long-number».ensures ∙ ap (λ (l : List ℕ). number_from a.place (said 10 l)) (from_place a.bytes.now a.place)
 
-pub number-spec : {M : Type 1} → statement M
-number-spec =
+pub number_spec : {M : Type 1} → statement M
+number_spec =
     tie.close
     (tie.spec
-    (λ c. none-there _ _ c.if1.true)
+    (λ c. none_there _ _ c.if1.true)
     (λ c. search rules)
     (λ c κs. search rules)
     (λ c. search rules)
