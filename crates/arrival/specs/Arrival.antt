@@ -1,12 +1,13 @@
--- The event of document 01 that a message of request #101 is.
-use Rattle.std.specs.Prelude.{◌≡◌, ℕ, List, [], ◌∷◌, get_or}
+-- Request #101, "Joined to the step": the event that a message is.
+use Rattle.std.specs.Prelude.{ℕ, ◌||◌, cond, [], ◌∷◌, eqb, get_or}
 use Rattle.event.specs.declared.Event.{Event}
 use Rattle.arrival.specs.declared.Token.{Token}
 
--- The codes of the messages 1 to 9. No message has the number 0: 24 is no event's code.
-abbrev pub codes : List ℕ
-codes =
-    24
+-- The codes of the messages 1 to 9. Any other number gets 24, which is no event's code.
+abbrev pub code_of : ℕ → ℕ
+code_of number =
+    get_or
+    (24
     ∷ 11  -- HELLO
     ∷ 12  -- CLOSE
     ∷ 14  -- DAT_EXPIRED
@@ -16,16 +17,13 @@ codes =
     ∷ 16  -- RA_VERIFIER
     ∷ 18  -- DATA
     ∷ 19  -- ACK
-    ∷ []
+    ∷ [])
+    number 24
 
--- The code of a message. Any other number gets 24.
-abbrev pub code_of : ℕ → ℕ
-code_of number = get_or codes number 24
-
--- The event that a message is, with what the host says of the token. A message carries no tag and names no timer.
-abbrev pub event_of : (number bit : ℕ) → Token → Event
-event_of number bit token = record {
-  code = code_of number;
+-- An event with a bit, and with what the host says of the token. A message carries no tag and names no timer.
+abbrev pub event_with : (code bit : ℕ) → Token → Event
+event_with code bit token = record {
+  code = code;
   tag = 0;
   timer = 0;
   bit = bit;
@@ -35,6 +33,11 @@ event_of number bit token = record {
   now = token.now;
 }
 
--- What is promised of the event that a message is.
-abbrev pub EventGives : (number bit : ℕ) → Token → Event → Type 0
-EventGives number bit token event = event ≡ event_of number bit token
+-- The event that a message is.
+abbrev pub event_of : (number bit : ℕ) → Token → Event
+event_of number bit token = event_with (code_of number) bit token
+
+-- `token_refusal` is what the host's interface refuses of the token, 0 for nothing. It counts for HELLO and DAT alone, which
+-- carry one.
+abbrev pub also_of : (number token_refusal : ℕ) → ℕ
+also_of number token_refusal = cond (eqb number 1 || eqb number 4) token_refusal 0

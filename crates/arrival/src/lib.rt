@@ -1,23 +1,21 @@
 // The event that a message of the peer is.
 ghost use Rattle.std.specs.Prelude.{◌≡◌};
-ghost use Rattle.arrival.specs.Arrival.{EventGives, code_of};
+ghost use Rattle.arrival.specs.Arrival.{also_of, code_of, event_of, event_with};
 
 use event::Event;
 use fields::schema;
+use protocol::refusals;
 use table::codes;
 
 // A code that no event has: a step with it is refused.
 const NO_EVENT: u32 = 24;
 
-// What the host says of a token.
-#[repr(C)]
+// What the host says of a token: its verdict on the signature, how many seconds before its expiry it counts as spent,
+// when it expires and the time now, in seconds.
 #[derive(Drop)]
 pub struct Token {
-    // The host's verdict on it: 1 for yes, 0 for no.
-    pub verdict: u32,
-    // How many seconds before its expiry the token counts as spent, 0 to 300.
+    pub verdict: bool,
     pub margin: u32,
-    // The token's expiry and the time now, in seconds.
     pub expiry: i64,
     pub now: i64,
 }
@@ -42,10 +40,16 @@ pub fn code_of(number: u32) -> u32
 
 // The event that a message is: its bit, and what the host says of the token.
 pub fn event_of(number: u32, bit: u32, token: Token) -> Event
-    ensures { EventGives number bit token result }
+    ensures { result ≡ event_of number bit token }
+{
+    event_with(code_of(number), bit, token)
+}
+
+fn event_with(code: u32, bit: u32, token: Token) -> Event
+    ensures { result ≡ event_with code bit token }
 {
     Event {
-        code: code_of(number),
+        code,
         tag: 0,
         timer: 0,
         bit,
@@ -54,4 +58,14 @@ pub fn event_of(number: u32, bit: u32, token: Token) -> Event
         expiry: token.expiry,
         now: token.now,
     }
+}
+
+// A refusal of the host's interface concerns the messages that carry a token.
+pub fn also_of(number: u32, token_refusal: u32) -> u32
+    ensures { result ≡ also_of number token_refusal }
+{
+    if (number == schema::HELLO) | (number == schema::DAT) {
+        return token_refusal;
+    }
+    refusals::NONE
 }

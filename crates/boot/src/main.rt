@@ -38,7 +38,7 @@ fn event(code: u32, tag: u32) -> Event {
         tag,
         timer: 0,
         bit: 0,
-        verdict: 1,
+        verdict: true,
         margin: 0,
         expiry: EXPIRY,
         now: NOW,

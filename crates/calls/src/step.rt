@@ -2,26 +2,25 @@
 use crate::lists::{ENTRIES, are_understood, list};
 use capi::menhotrac_step;
 use connection::part;
-use event::Event;
 use flat::actions_in;
+use interface::FlatEvent;
 use scan::{BYTES, bytes, groups, item, numbers, signed};
 use stdio::print;
 
-// An event, and whether it was understood.
 #[derive(Drop)]
-struct Asked {
-    event: Event,
+struct Event {
+    fields: FlatEvent,
     is_understood: bool,
 }
 
 // The event that group 1 is.
-fn event_in(row: &[u8]) -> Asked {
+fn event_in(row: &[u8]) -> Event {
     let mut fields = [0u32; 6];
     let first = numbers(row, 1, &mut fields);
     let expiry = signed(row, 1, 6);
     let at = signed(row, 1, 7);
-    Asked {
-        event: Event {
+    Event {
+        fields: FlatEvent {
             code: fields[0],
             tag: fields[1],
             timer: fields[2],
@@ -44,12 +43,12 @@ pub fn answer(row: &[u8]) -> bool {
     let mut payload = [0u8; BYTES];
     let mut cache = [0u8; BYTES];
     let fields = numbers(row, 0, &mut record);
-    let asked = event_in(row);
+    let event = event_in(row);
     let sent = bytes(row, 2, &mut payload);
     let kept = bytes(row, 3, &mut cache);
     let is_understood = (fields.len == 12)
         & fields.is_all
-        & asked.is_understood
+        & event.is_understood
         & sent.is_all
         & kept.is_all
         & are_understood(row, 4)
@@ -62,7 +61,7 @@ pub fn answer(row: &[u8]) -> bool {
     call(
         row,
         &mut record,
-        asked.event,
+        event.fields,
         &payload[0..m],
         &mut cache[0..n],
     );
@@ -73,7 +72,7 @@ pub fn answer(row: &[u8]) -> bool {
 fn call<'a>(
     row: &[u8],
     record: &mut [u32; 12],
-    event: Event,
+    event: FlatEvent,
     payload: &'a [u8],
     cache: &'a mut [u8],
 ) {

@@ -1,57 +1,68 @@
--- What a host in C gets for bytes that arrived is what `inbound` gives at once.
--- Assumes nothing.
-use mathlib.Core.Path.{◌≡◌, refl, subst, subst⁻¹, ◌∙◌}
+-- A message given to the step by the exports is one given to it by `inbound`.
+use mathlib.Core.Path.{◌≡◌, refl, sym, ap, ◌∙◌}
 use mathlib.Core.List.{List}
-use Prim.Native.Nat.{ℕ, ◌+◌}
-use native.Mathlib.Decide.{ℕ_discrete}
+use Prim.Native.Nat.{ℕ, zero, suc, ◌+◌}
+use native.Mathlib.Omega.{arith}
 use lib.ListN.{length, take, drop}
-use borrow.Author.Tests.{le-ltb}
-use Rattle.event.specs.Call.{Call}
-use Rattle.fault.specs.Fault.{Reading, refused}
+use borrow.Author.Tests.{le-ltb, ne_eqb}
+use Rattle.connection.specs.Also.{result_also}
 use Rattle.flat.specs.Flat.{record_in}
-use Rattle.inbound.proofs.Arrived.{refusal_is, call_is}
-use Rattle.inbound.specs.Received.{Given, call_by, result_for, received}
-use Rattle.messages.proofs.Lengths.{sixteen_left}
-use Rattle.messages.specs.Numbers.{part_of}
+use Rattle.arrival.specs.Arrival.{also_of, code_of}
+use Rattle.inbound.specs.Received.{Given, call_from, given, received, received_as}
+use Rattle.messages.proofs.Lengths.{all_there}
+use Rattle.fault.specs.Fault.{Reading, read_as, refused}
+use Rattle.fields.specs.Message.{Message, made}
 use Rattle.messages.specs.Outer.{reading_of}
-use Rattle.protocol.specs.Block as block
-use Rattle.protocol.specs.Step.{Result, result_of}
-use Rattle.record.specs.Limits.{limits}
-use Rattle.capi.specs.Arrived.{Lent, Got, Steps, call_made, Receives}
-use Rattle.capi.specs.Part.{part_in}
-use Rattle.capi.specs.Returned.{Shows}
-use Rattle.capi.proofs.Part.{part_of_front}
+use Rattle.messages.specs.Numbers.{part_of}
+use Rattle.wire.specs.Lists.{entries}
+use Rattle.interface.specs.Event.{flat_event_with}
+use Rattle.capi.specs.Arrived.{JoinedToStep, token_of, token_refusal}
+use Rattle.capi.specs.Returned.{returned, returned_of}
+use Rattle.interface.specs.Verdict.{refused_as}
+use Rattle.interface.specs.declared.FlatToken.{FlatToken}
 
--- What a host holds shows a result.
-abbrev pub Holds : Got → Result → Type 0
-Holds got result = Shows result got.answer got.numbers got.slots got.cache got.part
+-- A wrong verdict is refused with the messages that carry a token.
+same_refusal : (n bit : ℕ) (token : FlatToken) → refused_as (flat_event_with (code_of n) bit token) ≡ also_of n (token_refusal token)
+same_refusal zero bit token = refl
+same_refusal (suc zero) bit token = refl
+same_refusal (suc (suc zero)) bit token = refl
+same_refusal (suc (suc (suc zero))) bit token = refl
+same_refusal (suc (suc (suc (suc zero)))) bit token = refl
+same_refusal (suc (suc (suc (suc (suc zero))))) bit token = refl
+same_refusal (suc (suc (suc (suc (suc (suc zero)))))) bit token = refl
+same_refusal (suc (suc (suc (suc (suc (suc (suc zero))))))) bit token = refl
+same_refusal (suc (suc (suc (suc (suc (suc (suc (suc zero)))))))) bit token = refl
+same_refusal (suc (suc (suc (suc (suc (suc (suc (suc (suc zero))))))))) bit token = refl
+same_refusal (suc (suc (suc (suc (suc (suc (suc (suc (suc (suc n)))))))))) bit token =
+    rw (ne_eqb (suc (suc (suc (suc (suc (suc (suc (suc (suc (suc n)))))))))) 1 (λ e. omega (arith, e)), ne_eqb (suc (suc (suc (suc (suc (suc (suc (suc (suc (suc n)))))))))) 4 (λ e. omega (arith, e)))
 
--- After a step it holds the step's result.
-pub of_step : (lent : Lent) (call : Call) (slice : List ℕ) (got : Got) → Steps lent call slice got → part_in got.slots slice got.cache ≡ part_in got.slots call.payload got.cache
-    → Holds got (result_of limits (record_in lent.numbers) call lent.cache)
-of_step lent call slice got s e =
-    subst⁻¹ (Shows (result_of limits (record_in lent.numbers) call lent.cache) got.answer got.numbers got.slots got.cache) (s.part_taken ∙ e) s.returned.shows
+-- The step with a message of the definition, for bytes that are that message.
+module _ (connection bytes cache : List ℕ) (token : FlatToken) (our_verifiers our_provers : List ℕ) where
+  abbrev g : Given
+  g = given (token_of token) (token_refusal token) our_verifiers our_provers
 
-module _ (lent : Lent) (bytes : List ℕ) (given : Given) (got : Got) (r : Receives lent bytes given got) where
-  -- The host holds the result for a call, or for a refusal.
-  abbrev HoldsFor : Reading Call → Type 0
-  HoldsFor call = Holds got (result_for limits (record_in lent.numbers) call lent.cache)
+  stepped : (m : Message) → reading_of bytes ≡ read_as m →
+      returned connection (flat_event_with (code_of m.number) m.bit token) (part_of bytes (record { place = m.place; size = m.size })) cache
+      our_verifiers m.provers m.verifiers our_provers
+      ≡ returned_of (received (record_in connection) bytes g cache)
+  unfolding returned received
+  stepped m e =
+      ap (λ (also : ℕ). returned_of (result_also also (record_in connection) (call_from m bytes g) cache)) (same_refusal m.number m.bit token)
+      ∙ ap (λ (r : Reading Message). returned_of (received_as (record_in connection) r bytes g cache)) (sym e)
 
-  by_refusal : Dec (r.message.refusal ≡ 0) → HoldsFor (call_by (reading_of bytes) bytes given)
-  unfolding part_of block.part_of
-  by_refusal (yes none) =
-      let m = r.message in
-      let part : take m.size (drop m.place bytes) ≡ part_of bytes (record { place = m.place; size = m.size }) =
-      rw (le-ltb (length bytes) (m.place + m.size) r.read.lies)
+pub joined_to_step : JoinedToStep
+unfolding received part_of
+joined_to_step connection bytes cache token our_verifiers our_provers r provers verifiers f = (
+  λ none.
+      let part : take r.size (drop r.place bytes) ≡ part_of bytes (record { place = r.place; size = r.size }) =
+      rw (le-ltb (length bytes) (r.place + r.size) f.lies)
       in
-      subst HoldsFor (call_is r.read given none (sixteen_left r.read r.sixteen.0 r.sixteen.1) _ _ r.made part)
-      (of_step lent (call_made m r.event bytes r.provers_left r.verifiers_left given) (drop m.place bytes) got (r.stepped none)
-      (part_of_front got.slots (drop m.place bytes) got.cache m.size (r.stepped none).returned.within))
-  by_refusal (no some) =
-      subst HoldsFor (refusal_is r.read given some)
-      (subst⁻¹ (λ (g : Got). Holds g (result_for limits (record_in lent.numbers) (refused r.message.refusal) lent.cache)) (r.refused some)
-      (record { answered = refl; record_left = refl; ordered = refl; cache_left = refl; part_named = refl }))
-
-  pub of_bytes : Holds got (received (record_in lent.numbers) bytes given lent.cache)
-  unfolding received
-  of_bytes = by_refusal (ℕ_discrete r.message.refusal 0)
+      let p : take r.provers provers ≡ entries r.provers provers = sym (all_there r.provers provers f.sixteen.0 f.counts.0) in
+      let v : take r.verifiers verifiers ≡ entries r.verifiers verifiers = sym (all_there r.verifiers verifiers f.sixteen.1 f.counts.1) in
+      (λ i. returned connection (flat_event_with (code_of r.number) r.bit token) (part i) cache our_verifiers (p i) (v i) our_provers)
+      ∙ stepped connection bytes cache token our_verifiers our_provers
+      (made r.number r.place r.size r.bit (entries r.provers provers) (entries r.verifiers verifiers)) (sym f.says ∙ rw (none)),
+  λ some.
+      let e : reading_of bytes ≡ refused r.refusal = sym f.says ∙ rw (ne_eqb r.refusal 0 some) in
+      ap (λ (q : Reading Message). received_as (record_in connection) q bytes (given (token_of token) (token_refusal token) our_verifiers our_provers) cache) e,
+)

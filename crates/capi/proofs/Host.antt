@@ -1,81 +1,99 @@
 -- Demand 3 and the audit at the interface for C.
 -- Assumes nothing.
-use mathlib.Core.Path.{◌≡◌, refl, subst, ap}
+use mathlib.Core.Path.{◌≡◌, refl, ap, ◌∙◌}
+use mathlib.Core.Bool.{Bool, true, false, cond}
 use mathlib.Core.List.{List, [], ◌∷◌}
+use Prim.Native.Nat.{ℕ}
+use lib.Dec.{eqb}
 use lib.ListN.{length}
-use Rattle.event.specs.Call.{Call}
+use Rattle.connection.specs.Also.{result_also}
+use Rattle.decision.specs.Also.{decided_also}
 use Rattle.flat.specs.Flat.{record_in}
-use Rattle.inbound.proofs.Handed.{anew, handed_agree, handed_audited}
-use Rattle.inbound.specs.Handed.{Handed, called, arrived, call_in, calls_in, results_for, HandedAgree, HandedAudited}
-use Rattle.inbound.specs.Received.{result_for, received}
-use Rattle.protocol.proofs.Agreement.{demand3}
-use Rattle.protocol.proofs.Audit.{audit}
+use Rattle.event.specs.Call.{Call, input_of}
 use Rattle.protocol.specs.Agreement.{AllAgree}
 use Rattle.protocol.specs.Along.{Along}
 use Rattle.protocol.specs.Audit.{AllAudited}
-use Rattle.protocol.specs.Run.{Left, left_by, results_of}
-use Rattle.protocol.specs.Step.{Result, result_of}
+use Rattle.protocol.specs.Block.{part_of}
+use Rattle.protocol.specs.Run.{results_of}
+use Rattle.protocol.specs.Step.{Result, refusal_of, cache_after, decided, result_with, result_of, unchanged}
+use Rattle.protocol.specs.declared.Answer.TheVariants.{Refused}
+use Rattle.protocol.specs.declared.Outcome.{Outcome}
 use Rattle.record.specs.Limits.{limits}
-use Rattle.capi.specs.Arrived.{Lent, Got}
-use Rattle.capi.specs.Host.{lent_by, Promised, AllPromised, AllShow}
-use Rattle.capi.specs.Returned.{FreshReturns}
-use Rattle.capi.proofs.Arrived.{Holds, of_step, of_bytes}
+use Rattle.record.specs.WellFormed.{fresh}
+use Rattle.record.specs.declared.Connection.{Connection}
+use Rattle.capi.specs.Host.{FlatCall, call_in, calls_in, AllRight, Got, Holds, Lent, lent_by, AllPromised, AllShow}
+use Rattle.capi.specs.Returned.{Returned, returned, returned_of}
+use Rattle.interface.specs.Verdict.{refused_verdict, wrong_verdict}
+use Rattle.connection.proofs.Also.{none_also}
+use Rattle.protocol.proofs.Agreement.{demand3}
+use Rattle.protocol.proofs.Audit.{audit}
+use Rattle.protocol.proofs.Stepped.{still}
 
--- What a host got for what it was handed.
-one_shows : (lent : Lent) (one : Handed) (got : Got) → Promised lent one got → Holds got (result_for limits (record_in lent.numbers) (call_in one) lent.cache)
-unfolding received
-one_shows lent (called call) got p = of_step lent call call.payload got p refl
-one_shows lent (arrived bytes given) got p = of_bytes lent bytes given got p
+-- A call with a right verdict returns the step's result.
+right : (numbers cache : List ℕ) (call : FlatCall) → wrong_verdict call.event ≡ false
+    → returned numbers call.event call.payload cache call.our_verifiers call.peer_provers call.peer_verifiers call.our_provers ≡ returned_of (result_of limits (record_in numbers) (call_in call) cache)
+unfolding returned
+right numbers cache call e =
+    ap (λ (b : Bool). returned_of (result_also (cond b refused_verdict 0) (record_in numbers) (call_in call) cache)) e ∙
+    ap returned_of (none_also (record_in numbers) (call_in call) cache)
 
--- The same over a list, from numbers and a cache that are those of a record and a cache.
-all_show : (left : Left) (lent : Lent) (handed : List Handed) (got : List Got) → record_in lent.numbers ≡ left.connection → lent.cache ≡ left.cache
-    → AllPromised lent handed got → AllShow got (results_for limits left (calls_in handed))
-unfolding Along results_for
-all_show left lent [] [] r k p = tt
-all_show left lent [] (g ∷ more) r k p = absurd p
-all_show left lent (one ∷ others) [] r k p = absurd p
-all_show left lent (one ∷ others) (g ∷ more) r k p =
-    let result = result_for limits left.connection (call_in one) left.cache in
-    let h = subst (Holds g) (λ i. result_for limits (r i) (call_in one) (k i)) (one_shows lent one g p.0) in
-    (h, all_show (left_by result) (lent_by g) others more h.record_left h.cache_left p.1)
+-- One that the interface refuses is refused with the step's number, or with the interface's where the step refuses nothing; nothing changes.
+module _ (also : ℕ) (some : eqb also 0 ≡ false) (connection : Connection) (call : Call) (cache : List ℕ) where
+  abbrev refused_with : ℕ
+  refused_with = let n = refusal_of limits connection call (length cache) in cond (eqb n 0) also n
+
+  stays : result_also also connection call cache ≡ still (Refused refused_with) connection cache
+  unfolding result_also decided_also decided part_of
+  stays =
+      ap (λ (o : Outcome). result_with o call.payload (cache_after o.answer call cache)) (by_refusal (eqb (refusal_of limits connection call (length cache)) 0) refl)
+    where
+      by_refusal : (b : Bool) → eqb (refusal_of limits connection call (length cache)) 0 ≡ b → decided_also also connection call.event.code (input_of limits call (length cache)) ≡ unchanged (Refused refused_with) connection
+      by_refusal true e = rw (e, some)
+      by_refusal false e = rw e
+
+-- So a call with a wrong verdict changes nothing.
+pub wrong_changes_nothing : (numbers cache : List ℕ) (call : FlatCall) → wrong_verdict call.event ≡ true
+    → returned numbers call.event call.payload cache call.our_verifiers call.peer_provers call.peer_verifiers call.our_provers
+    ≡ returned_of (still (Refused (refused_with refused_verdict refl (record_in numbers) (call_in call) cache)) (record_in numbers) cache)
+unfolding returned
+wrong_changes_nothing numbers cache call e =
+    ap (λ (b : Bool). returned_of (result_also (cond b refused_verdict 0) (record_in numbers) (call_in call) cache)) e ∙
+    ap returned_of (stays refused_verdict refl (record_in numbers) (call_in call) cache)
+
+holds_same : (got : Got) (a b : Returned) → a ≡ b → Holds got a → Holds got b
+holds_same got a b e h = record {
+  answered = h.answered ∙ ap (λ (r : Returned). r.answer) e;
+  record_left = h.record_left ∙ ap (λ (r : Returned). r.connection) e;
+  ordered = h.ordered ∙ ap (λ (r : Returned). r.actions) e;
+  cache_left = h.cache_left ∙ ap (λ (r : Returned). r.cache) e;
+  part_taken = h.part_taken ∙ ap (λ (r : Returned). r.part) e;
+}
+
+-- What a host got, from numbers and a cache that are those of a record and a cache.
+shown : (connection : Connection) (held : List ℕ) (lent : Lent) (calls : List FlatCall) (got : List Got) → record_in lent.numbers ≡ connection → lent.cache ≡ held
+    → AllRight calls → AllPromised lent calls got → AllShow got (results_of limits connection held (calls_in calls))
+unfolding Along results_of
+shown connection held lent [] [] r k a p = tt
+shown connection held lent [] (g ∷ more) r k a p = absurd p
+shown connection held lent (call ∷ calls) [] r k a p = absurd p
+shown connection held lent (call ∷ calls) (g ∷ more) r k a p =
+    let result = result_of limits connection (call_in call) held in
+    let same = right lent.numbers lent.cache call a.0 ∙ (λ i. returned_of (result_of limits (r i) (call_in call) (k i))) in
+    let h = holds_same g _ (returned_of result) same p.0 in
+    (h, shown result.outcome.connection result.cache (lent_by g) calls more h.record_left h.cache_left a.1 p.1)
 
 -- A host in C that began with a fresh record.
-module _ (lent : Lent) (handed : List Handed) (got : List Got) (began : FreshReturns lent.numbers) (promised : AllPromised lent handed got) where
-  abbrev pub results : List Result
-  results = results_for limits (anew lent.cache) (calls_in handed)
+module _ (lent : Lent) (calls : List FlatCall) (got : List Got) (began : record_in lent.numbers ≡ fresh) (right-verdicts : AllRight calls) (promised : AllPromised lent calls got) where
+  abbrev results : List Result
+  results = results_of limits fresh lent.cache (calls_in calls)
 
   shows : AllShow got results
-  shows = all_show (anew lent.cache) lent handed got (ap record_in began) refl promised
+  shows = shown fresh lent.cache lent calls got began refl right-verdicts promised
 
   -- What it got are the numbers of results that agree with the history.
-  pub c_host_agrees : AllShow got results × HandedAgree limits (length lent.cache) (anew lent.cache) (calls_in handed) results
-  c_host_agrees = (shows, handed_agree limits lent.cache (calls_in handed))
+  pub c_host_agrees : AllShow got results × AllAgree limits (length lent.cache) (calls_in calls) results
+  c_host_agrees = (shows, demand3 limits lent.cache (calls_in calls))
 
   -- And that the audit finds in order.
-  pub c_host_audited : AllShow got results × HandedAudited (anew lent.cache) (calls_in handed) results
-  c_host_audited = (shows, handed_audited limits lent.cache (calls_in handed))
-
--- The same for a host that is handed no bytes.
-abbrev events : List Call → List Handed
-events [] = []
-events (call ∷ calls) = called call ∷ events calls
-
-only_calls : (left : Left) (calls : List Call) → results_for limits left (calls_in (events calls)) ≡ results_of limits left.connection left.cache calls
-unfolding results_for results_of
-only_calls left [] = refl
-only_calls left (call ∷ calls) =
-    let result = result_of limits left.connection call left.cache in
-    ap (λ (results : List Result). result ∷ results) (only_calls (left_by result) calls)
-
-module _ (lent : Lent) (calls : List Call) (got : List Got) (began : FreshReturns lent.numbers) (promised : AllPromised lent (events calls) got) where
-  abbrev pub step_results : List Result
-  step_results = results_of limits (anew lent.cache).connection lent.cache calls
-
-  step_shows : AllShow got step_results
-  step_shows = subst (AllShow got) (only_calls (anew lent.cache) calls) (shows lent (events calls) got began promised)
-
-  pub c_steps_agree : AllShow got step_results × AllAgree limits (length lent.cache) calls step_results
-  c_steps_agree = (step_shows, demand3 limits lent.cache calls)
-
-  pub c_steps_audited : AllShow got step_results × AllAudited calls step_results
-  c_steps_audited = (step_shows, audit limits lent.cache calls)
+  pub c_host_audited : AllShow got results × AllAudited (calls_in calls) results
+  c_host_audited = (shows, audit limits lent.cache (calls_in calls))

@@ -1,3 +1,4 @@
 pub mod Arrived
 pub mod Host
 mod Part
+mod Read

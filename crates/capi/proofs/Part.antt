@@ -1,29 +1,26 @@
 -- The payload part that a sheet names lies within its slice.
 -- Assumes nothing.
-use mathlib.Core.Path.{◌≡◌, refl, sym, ap, subst⁻¹, ◌∙◌}
-use mathlib.Core.Bool.{Bool, true, false, cond}
+use mathlib.Core.Path.{◌≡◌, refl, sym, subst⁻¹, ◌∙◌}
+use mathlib.Core.Bool.{Bool, true, false, not, ◌&&◌, cond}
 use mathlib.Core.List.{List, [], ◌∷◌}
 use Prim.Native.Nat.{ℕ, ◌≤◌}
 use native.Mathlib.Omega.{arith}
 use lib.Dec.{T, eqb}
-use lib.ListN.{length, length-append, length-take, get_or, take}
-use lib.Seq.{take-take}
+use lib.ListN.{length, length-append, take}
 use borrow.Author.Tests.{eqb-true}
-use Rattle.event.specs.Call.{Call}
-use Rattle.flat.specs.Flat.{record_in, slots_of}
-use Rattle.flat.specs.Written.{WrittenResult}
-use Rattle.interface.specs.Answer.{answer_number}
+use Rattle.connection.specs.Also.{result_also}
+use Rattle.decision.specs.Also.{decided_also}
+use Rattle.event.specs.Call.{Call, carries_payload, input_of}
+use Rattle.flat.specs.Flat.{slots_of}
 use Rattle.record.specs.Limits.{limits}
 use Rattle.record.specs.declared.Connection.{Connection}
 use Rattle.protocol.specs.Actions.{length_of, source_of}
 use Rattle.protocol.specs.Block.{front, part_of, stored}
-use Rattle.protocol.specs.Input.{carries_payload, input_of}
 use Rattle.protocol.specs.Orders as order
-use Rattle.protocol.specs.Step.{Result, result_of}
+use Rattle.protocol.specs.Step.{Result, refusal_of, step_of, cache_after, result_with, result_of, unchanged}
+use Rattle.protocol.specs.declared.Answer.TheVariants.{Refused}
 use Rattle.protocol.specs.declared.Actions.{Actions}
-use Rattle.protocol.specs.declared.Answer.{Answer}
-use Rattle.capi.specs.Part.{slice_by, length_in, Within, part_in}
-use Rattle.capi.specs.Returned.{StepReturns}
+use Rattle.capi.specs.Part.{slice_by, Within, part_in}
 use Rattle.protocol.proofs.Blocks.{front_of}
 use Rattle.protocol.proofs.Moved.{ordered}
 use Rattle.protocol.proofs.Stepped.{Stepped, refused, ignored, handled, stepped, next, moved_to, payload_length, Unrefused, unrefused}
@@ -77,6 +74,16 @@ step_fits connection call cache = by_step (stepped limits connection call cache)
     by_step (ignored n i e) = subst⁻¹ (Fits call.payload) e (omega arith)
     by_step (handled n i e) = subst⁻¹ (Fits call.payload) e (moved_fits connection call cache (next limits connection call cache) (unrefused limits connection call cache n))
 
+-- A call at the interface.
+also_fits : (also : ℕ) (connection : Connection) (call : Call) (cache : List ℕ) → Fits call.payload (result_also also connection call cache)
+unfolding result_also decided_also result_of
+also_fits also connection call cache = by_refusal (eqb (refusal_of limits connection call (length cache)) 0 && not (eqb also 0))
+  where
+    by_refusal : (b : Bool)
+        → Fits call.payload (result_with (cond b (unchanged (Refused also) connection) (step_of limits connection call (length cache))) call.payload (cache_after (cond b (unchanged (Refused also) connection) (step_of limits connection call (length cache))).answer call cache))
+    by_refusal true = omega arith
+    by_refusal false = step_fits connection call cache
+
 -- So many bytes from the start of a slice that has them are the part that actions name.
 part_is : (actions : Actions) (payload cache : List ℕ) → actions.payload_len ≤ length (slice_by actions.payload_slice payload cache)
     → take actions.payload_len (slice_by actions.payload_slice payload cache) ≡ part_of actions payload cache
@@ -88,25 +95,13 @@ part_is actions payload cache = by_slice actions.payload_len (eqb actions.payloa
     by_slice n false true h = sym (front_of n payload h)
     by_slice n false false h = let z : n ≡ 0 = omega arith in rw z
 
--- What a host gets where a step's result is written in numbers.
-pub step_returns : (numbers : List ℕ) (call : Call) (cache : List ℕ) (answer : Answer) (left slots after : List ℕ) → WrittenResult (result_of limits (record_in numbers) call cache) answer left slots after
-    → (number : ℕ) → number ≡ answer_number answer → StepReturns numbers call cache number left slots after
-unfolding result_of
-step_returns numbers call cache answer left slots after w number e =
-    let result = result_of limits (record_in numbers) call cache in
-    let o = w.outcome_is in
-    let fits = step_fits (record_in numbers) call cache in
-    let part = part_is result.outcome.actions call.payload result.cache fits in
-    subst⁻¹ (λ (l : List ℕ). StepReturns numbers call cache number left l after) o.ordered
-    (subst⁻¹ (StepReturns numbers call cache number left (slots_of result.outcome.actions)) w.cache_is
-    (record { shows = record { answered = e ∙ ap answer_number o.answered; record_left = o.record_left; ordered = refl; cache_left = refl; part_named = part }; within = fits }))
-
--- So many bytes of a slice are those of its front, if that has them.
-pub part_of_front : (slots bytes cache : List ℕ) (size : ℕ) → Within slots (take size bytes) cache → part_in slots bytes cache ≡ part_in slots (take size bytes) cache
-part_of_front slots bytes cache size = by_slice (eqb (get_or slots 14 0) order.of_cache) (eqb (get_or slots 14 0) order.of_event)
-  where
-    by_slice : (c e : Bool) → length_in slots ≤ length (cond c cache (cond e (take size bytes) []))
-        → take (length_in slots) (cond c cache (cond e bytes [])) ≡ take (length_in slots) (cond c cache (cond e (take size bytes) []))
-    by_slice true e h = refl
-    by_slice false true h = sym (take-take (length_in slots) size bytes (let l = length-take size bytes in omega arith))
-    by_slice false false h = refl
+-- The part as a host takes it, by the slots and the cache that a call left.
+pub taken : (also : ℕ) (connection : Connection) (call : Call) (cache slots after : List ℕ) → slots ≡ slots_of (result_also also connection call cache).outcome.actions → after ≡ (result_also also connection call cache).cache
+    → Within slots call.payload after × (part_in slots call.payload after ≡ (result_also also connection call cache).part)
+unfolding result_also
+taken also connection call cache slots after s k =
+    let result = result_also also connection call cache in
+    let fits = also_fits also connection call cache in (
+      subst⁻¹ (λ (l : List ℕ). Within l call.payload after) s (subst⁻¹ (λ (l : List ℕ). Within (slots_of result.outcome.actions) call.payload l) k fits),
+      (λ i. part_in (s i) call.payload (k i)) ∙ part_is result.outcome.actions call.payload result.cache fits,
+    )

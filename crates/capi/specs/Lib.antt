@@ -1,4 +1,4 @@
 pub mod Part
 pub mod Returned
-pub mod Arrived
 pub mod Host
+pub mod Arrived

@@ -1,27 +1,34 @@
--- What `menhotrac_fresh` and `menhotrac_step` give a host in C, as their contracts cite it.
-use Rattle.std.specs.Prelude.{ℕ, ◌≡◌, List}
-use Rattle.event.specs.Call.{Call}
-use Rattle.flat.specs.Flat.{numbers_of, record_in, slots_of}
+-- What a host in C gets for a call.
+use Rattle.std.specs.Prelude.{ℕ, List}
+use Rattle.connection.specs.Also.{result_also}
+use Rattle.flat.specs.Flat.{record_in, slots_of}
+use Rattle.event.specs.Call.{call_of}
+use Rattle.record.specs.declared.Connection.{Connection}
+use Rattle.protocol.specs.Step.{Result}
 use Rattle.interface.specs.Answer.{answer_number}
-use Rattle.protocol.specs.Step.{Result, result_of}
-use Rattle.record.specs.Limits.{limits}
-use Rattle.record.specs.WellFormed.{fresh}
-use Rattle.capi.specs.Part.{Within, part_in}
+use Rattle.interface.specs.Event.{event_of}
+use Rattle.interface.specs.Verdict.{refused_as}
+use Rattle.interface.specs.declared.FlatEvent.{FlatEvent}
 
--- The answer, the numbers of a record, the slots of an order sheet, a cache and a payload part are those of a result.
-pub record Shows (result : Result) (answer : ℕ) (numbers slots cache part : List ℕ) : Type 0 where
-  pub answered : answer ≡ answer_number result.outcome.answer
-  pub record_left : record_in numbers ≡ result.outcome.connection
-  pub ordered : slots ≡ slots_of result.outcome.actions
-  pub cache_left : cache ≡ result.cache
-  pub part_named : part ≡ result.part
+-- The answer as a number, the record that the twelve numbers are, the sixteen slots of the order sheet, the cache, and the payload part.
+pub record Returned : Type 0 where
+  pub answer : ℕ
+  pub connection : Connection
+  pub actions : List ℕ
+  pub cache : List ℕ
+  pub part : List ℕ
 
--- What `menhotrac_fresh` gives.
-abbrev pub FreshReturns : (numbers : List ℕ) → Type 0
-FreshReturns numbers = numbers ≡ numbers_of fresh
+-- A result as it is returned.
+abbrev pub returned_of : Result → Returned
+returned_of result = record {
+  answer = answer_number result.outcome.answer;
+  connection = result.outcome.connection;
+  actions = slots_of result.outcome.actions;
+  cache = result.cache;
+  part = result.part;
+}
 
--- What `menhotrac_step` gives for the numbers of a record, a call and a cache: the step's result. The bytes that the slots name lie within
--- their slice, and are the payload part.
-pub record StepReturns (numbers : List ℕ) (call : Call) (cache : List ℕ) (answer : ℕ) (numbers_left slots cache_left : List ℕ) : Type 0 where
-  pub shows : Shows (result_of limits (record_in numbers) call cache) answer numbers_left slots cache_left (part_in slots call.payload cache_left)
-  pub within : Within slots call.payload cache_left
+-- What a call returns, by the arguments of `menhotrac_step`: the step's result; where the step refuses nothing, a wrong verdict is refused.
+unfoldable pub returned : (connection : List ℕ) → FlatEvent → (payload cache our_verifiers peer_provers peer_verifiers our_provers : List ℕ) → Returned
+returned connection flat payload cache our_verifiers peer_provers peer_verifiers our_provers =
+    returned_of (result_also (refused_as flat) (record_in connection) (call_of (event_of flat) payload our_verifiers peer_provers peer_verifiers our_provers) cache)

@@ -2,19 +2,24 @@
 //
 // Record, actions and choice are lent as numbers in a fixed order; the header `menhotrac.h` names them. The host owns
 // all memory, and the library keeps none of it.
-ghost use Rattle.std.specs.Prelude.{◌≡◌};
-ghost use Rattle.arrival.specs.Arrival.{EventGives};
-ghost use Rattle.capi.specs.Returned.{FreshReturns, StepReturns};
-ghost use Rattle.event.specs.Call.{call_of};
+ghost use Rattle.std.specs.Prelude.{◌≡◌, ◌+◌, ◌≤◌, length};
+ghost use Rattle.capi.specs.Part.{Within, part_in};
+ghost use Rattle.capi.specs.Returned.{returned};
+ghost use Rattle.arrival.specs.Arrival.{code_of};
+ghost use Rattle.flat.specs.Flat.{numbers_of, record_in};
 ghost use Rattle.interface.specs.Choice.{chosen_of};
-ghost use Rattle.messages.specs.Promised.{ReadGives};
+ghost use Rattle.interface.specs.Event.{flat_event_with};
+ghost use Rattle.record.specs.WellFormed as spec;
 ghost use Rattle.suites.specs.Choice.{choice};
 ghost use Rattle.token.specs.Answer.{time_left};
+ghost use Rattle.messages.specs.Flat.{flat_in, reading_by};
+ghost use Rattle.messages.specs.Outer.{reading_of};
+ghost use Rattle.fields.specs.Contents.{provers_after, verifiers_after};
 
-use arrival::{Token, event_of};
-use connection::{Event, fresh, step_flat};
+use arrival::code_of;
+use connection::{fresh, step_flat};
 use flat::numbers_of;
-use interface::{answer, choice, time};
+use interface::{FlatEvent, FlatToken, answer, choice, event_in, event_of, refused_as, time};
 use messages::{FlatMessage, read_flat};
 use suites::choose;
 use token::seconds_left;
@@ -22,7 +27,7 @@ use token::seconds_left;
 // The record of a new connection.
 #[unsafe(no_mangle)]
 pub extern "C" fn menhotrac_fresh(connection: &mut [u32; 12])
-    ensures { FreshReturns connection.new }
+    ensures { connection.new ≡ numbers_of spec.fresh }
 {
     *connection = numbers_of(fresh());
 }
@@ -65,7 +70,7 @@ pub extern "C" fn menhotrac_choose_suites(
 #[unsafe(no_mangle)]
 pub extern "C" fn menhotrac_step(
     connection: &mut [u32; 12],
-    event: Event,
+    event: FlatEvent,
     payload: &[u8],
     cache: &mut [u8],
     actions: &mut [u32; 16],
@@ -74,15 +79,17 @@ pub extern "C" fn menhotrac_step(
     peer_verifiers: &[u32],
     our_provers: &[u32],
 ) -> u32
-    ensures { StepReturns
-        connection.old
-        (call_of event payload.now our_verifiers.now peer_provers.now peer_verifiers.now our_provers.now)
-        cache.old
-        result connection.new actions.new cache.new }
+    ensures value { result ≡ (returned connection.old event payload.now cache.old our_verifiers.now peer_provers.now peer_verifiers.now our_provers.now).answer }
+    ensures connection_after { record_in connection.new ≡ (returned connection.old event payload.now cache.old our_verifiers.now peer_provers.now peer_verifiers.now our_provers.now).connection }
+    ensures actions_after { actions.new ≡ (returned connection.old event payload.now cache.old our_verifiers.now peer_provers.now peer_verifiers.now our_provers.now).actions }
+    ensures cache_after { cache.new ≡ (returned connection.old event payload.now cache.old our_verifiers.now peer_provers.now peer_verifiers.now our_provers.now).cache }
+    ensures within { Within actions.new payload.now cache.new }
+    ensures cache_after_2 { part_in actions.new payload.now cache.new ≡ (returned connection.old event payload.now cache.old our_verifiers.now peer_provers.now peer_verifiers.now our_provers.now).part }
 {
     let answer = step_flat(
         connection,
-        event,
+        refused_as(event),
+        event_of(event),
         payload,
         our_verifiers,
         peer_provers,
@@ -102,15 +109,20 @@ pub extern "C" fn menhotrac_read(
     provers: &mut [u32; 16],
     verifiers: &mut [u32; 16],
 ) -> FlatMessage
-    ensures { ReadGives bytes.now provers.old verifiers.old result provers.new verifiers.new }
+    ensures value { result ≡ flat_in (reading_of bytes.now) }
+    ensures provers_after { provers.new ≡ provers_after (reading_of bytes.now) provers.old }
+    ensures verifiers_after { verifiers.new ≡ verifiers_after (reading_of bytes.now) verifiers.old }
+    ensures verifiers_after_2 { reading_by result provers.new verifiers.new ≡ reading_of bytes.now }
+    ensures provers_bound { (result.provers ≤ 16) × (result.verifiers ≤ 16) }
+    ensures size_in_bounds { result.place + result.size ≤ length bytes.now }
 {
     read_flat(bytes, provers, verifiers)
 }
 
 // The event that a message is, by its number and bit, with what the host says of the token.
 #[unsafe(no_mangle)]
-pub extern "C" fn menhotrac_event_of(number: u32, bit: u32, token: Token) -> Event
-    ensures { EventGives number bit token result }
+pub extern "C" fn menhotrac_event_of(number: u32, bit: u32, token: FlatToken) -> FlatEvent
+    ensures { result ≡ flat_event_with (code_of number) bit token }
 {
-    event_of(number, bit, token)
+    event_in(code_of(number), bit, token)
 }

@@ -1,32 +1,37 @@
 -- The step by value: what the step on numbers gives for the numbers of a record, read back.
 -- Assumes nothing.
-use mathlib.Core.Path.{◌≡◌, subst, ap, ◌∙◌}
+use mathlib.Core.Path.{◌≡◌, ap, ◌∙◌}
 use mathlib.Core.List.{List}
 use Prim.Native.Nat.{ℕ}
 use lib.ListN.{length}
-use Rattle.event.specs.Call.{Call}
-use Rattle.flat.specs.Flat.{numbers_of, record_in, actions_in}
-use Rattle.flat.specs.Written.{WrittenResult}
+use Rattle.event.specs.Call.{Call, input_of}
+use Rattle.flat.specs.Flat.{numbers_of, record_in, slots_of, actions_in}
 use Rattle.flat.proofs.ReadBack.{back}
 use Rattle.record.specs.Limits.{limits}
 use Rattle.record.specs.declared.Connection.{Connection}
-use Rattle.protocol.specs.Input.{input_of}
-use Rattle.protocol.specs.Promised.{StepGives}
-use Rattle.protocol.specs.Step.{refusal_number, result_of}
+use Rattle.protocol.specs.Step.{Result, refusal_number, refusal_of, result_of}
 use Rattle.protocol.specs.declared.Actions.{Actions}
 use Rattle.protocol.specs.declared.Answer.{Answer}
+use Rattle.protocol.specs.declared.Outcome.{Outcome}
 use Rattle.protocol.proofs.Decided.{number_is}
+use Rattle.connection.specs.Also.{result_also}
+use Rattle.connection.proofs.Also.{none_also}
 
--- The numbers were the record's.
-pub by_value : (connection : Connection) (call : Call) (cache first : List ℕ) → first ≡ numbers_of connection
-    → (answer : Answer) (numbers slots after : List ℕ) → WrittenResult (result_of limits (record_in first) call cache) answer numbers slots after
-    → (left : Connection) (actions : Actions) → left ≡ record_in numbers → actions ≡ actions_in slots
-    → StepGives limits connection call cache (record { answer = answer; connection = left; actions = actions }) after
-unfolding result_of
-by_value connection call cache first are-its answer numbers slots after got left actions l a =
-    let w = subst (λ (x : List ℕ). WrittenResult (result_of limits (record_in x) call cache) answer numbers slots after) are-its got in
-    record {
-      outcome_is = back (result_of limits connection call cache).outcome answer numbers slots left actions w.outcome_is l a;
-      refusal_is = ap refusal_number w.outcome_is.answered ∙ number_is limits connection call.event.code (input_of limits call (length cache));
-      cache_is = w.cache_is;
-    }
+module _ (connection : Connection) (call : Call) (cache : List ℕ) (first : List ℕ) (are-its : first ≡ numbers_of connection) where
+  -- No interface refuses, and the numbers are the record's.
+  is_result : result_also 0 (record_in first) call cache ≡ result_of limits connection call cache
+  is_result = ap (λ (l : List ℕ). result_also 0 (record_in l) call cache) are-its ∙ none_also connection call cache
+
+  module _ (answer : Answer) (numbers slots after : List ℕ)
+      (got : (answer ≡ (result_also 0 (record_in first) call cache).outcome.answer) × ((record_in numbers ≡ (result_also 0 (record_in first) call cache).outcome.connection) × ((slots ≡ slots_of (result_also 0 (record_in first) call cache).outcome.actions) × (after ≡ (result_also 0 (record_in first) call cache).cache)))) where
+    -- Outcome, number of the refusal and cache.
+    pub by_value : (left : Connection) (actions : Actions) → left ≡ record_in numbers → actions ≡ actions_in slots
+        → (◌≡◌ {A = Outcome} (record { answer = answer; connection = left; actions = actions }) (result_of limits connection call cache).outcome) × ((refusal_number answer ≡ refusal_of limits connection call (length cache)) × (after ≡ (result_of limits connection call cache).cache))
+    unfolding result_of
+    by_value left actions l a = (
+      back (result_also 0 (record_in first) call cache).outcome answer numbers slots left actions (record { answered = got.0; record_left = got.1.0; ordered = got.1.1.0 }) l a ∙ ap (λ (r : Result). r.outcome) is_result,
+      (
+        ap refusal_number got.0 ∙ ap (λ (r : Result). refusal_number r.outcome.answer) is_result ∙ number_is limits connection call.event.code (input_of limits call (length cache)),
+        got.1.1.1 ∙ ap (λ (r : Result). r.cache) is_result,
+      ),
+    )

@@ -1,2 +1,3 @@
+pub mod Also
 mod ByValue
-mod Result
+mod Cache

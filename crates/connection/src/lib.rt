@@ -6,16 +6,15 @@ ghost use Rattle.std.specs.Prelude.{◌≡◌, ◌≤◌, length};
 ghost use Rattle.record.specs.Limits.{limits};
 ghost use Rattle.event.specs.Call.{call_of};
 ghost use Rattle.protocol.specs.Block.{stored};
-ghost use Rattle.protocol.specs.Promised.{StepGives};
-ghost use Rattle.protocol.specs.Step.{result_of};
-ghost use Rattle.flat.specs.Flat.{record_in};
-ghost use Rattle.flat.specs.Written.{WrittenResult};
+ghost use Rattle.protocol.specs.Step.{refusal_number, refusal_of, result_of};
+ghost use Rattle.connection.specs.Also.{result_also};
+ghost use Rattle.flat.specs.Flat.{record_in, slots_of};
 
 use decision::decide;
 use effects::NO_ACTIONS;
 pub use event::{Event, timers};
+use event::{choose_suites, read};
 use flat::{actions_in, numbers_of, record_in, slots_of};
-use input::{choose_suites, read};
 pub use outcome::{part, refusal_number};
 pub use protocol::{Actions, Answer, Outcome, orders, refusals};
 pub use record::{Connection, fresh};
@@ -32,15 +31,15 @@ pub fn step(
     our_provers: &[u32],
     cache: &mut [u8],
 ) -> Outcome
-    ensures { StepGives limits connection
-        (call_of event payload.now our_verifiers.now peer_provers.now
-        peer_verifiers.now our_provers.now)
-        cache.old result cache.new }
+    ensures value { result ≡ (result_of limits connection (call_of event payload.now our_verifiers.now peer_provers.now peer_verifiers.now our_provers.now) cache.old).outcome }
+    ensures answer_value { refusal_number result.answer ≡ refusal_of limits connection (call_of event payload.now our_verifiers.now peer_provers.now peer_verifiers.now our_provers.now) (length cache.old) }
+    ensures cache_after { cache.new ≡ (result_of limits connection (call_of event payload.now our_verifiers.now peer_provers.now peer_verifiers.now our_provers.now) cache.old).cache }
 {
     let mut numbers = numbers_of(connection);
     let mut slots = slots_of(NO_ACTIONS);
     let answer = step_flat(
         &mut numbers,
+        refusals::NONE,
         event,
         payload,
         our_verifiers,
@@ -57,9 +56,11 @@ pub fn step(
     }
 }
 
-// One step on a record that is lent in numbers; it writes the actions in numbers too.
+// One step on a record that is lent in numbers; it writes the actions in numbers too. `also` is a refusal of the host's
+// interface, 0 for none: it is given where the step refuses nothing.
 pub fn step_flat(
     numbers: &mut [u32; 12],
+    also: u32,
     event: Event,
     payload: &[u8],
     our_verifiers: &[u32],
@@ -69,12 +70,10 @@ pub fn step_flat(
     cache: &mut [u8],
     slots: &mut [u32; 16],
 ) -> Answer
-    ensures { WrittenResult
-        (result_of limits (record_in numbers.old)
-        (call_of event payload.now our_verifiers.now peer_provers.now
-        peer_verifiers.now our_provers.now)
-        cache.old)
-        result numbers.new slots.new cache.new }
+    ensures value { result ≡ (result_also also (record_in numbers.old) (call_of event payload.now our_verifiers.now peer_provers.now peer_verifiers.now our_provers.now) cache.old).outcome.answer }
+    ensures numbers_after { record_in numbers.new ≡ (result_also also (record_in numbers.old) (call_of event payload.now our_verifiers.now peer_provers.now peer_verifiers.now our_provers.now) cache.old).outcome.connection }
+    ensures slots_after { slots.new ≡ slots_of (result_also also (record_in numbers.old) (call_of event payload.now our_verifiers.now peer_provers.now peer_verifiers.now our_provers.now) cache.old).outcome.actions }
+    ensures cache_after { cache.new ≡ (result_also also (record_in numbers.old) (call_of event payload.now our_verifiers.now peer_provers.now peer_verifiers.now our_provers.now) cache.old).cache }
 {
     let code = event.code;
     let suites = choose_suites(
@@ -86,7 +85,7 @@ pub fn step_flat(
     );
     let input = read(event, payload.len(), cache.len(), suites);
     let connection = record_in(numbers);
-    let answer = decide(numbers, slots, connection, code, input);
+    let answer = decide(numbers, slots, also, connection, code, input);
     let Answer::Handled = answer else {
         return answer;
     };

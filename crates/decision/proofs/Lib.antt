@@ -1,1 +1,2 @@
+mod Also
 mod Lent

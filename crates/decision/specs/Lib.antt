@@ -1,1 +1,2 @@
+pub mod Also
 pub mod Lent

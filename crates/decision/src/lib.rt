@@ -1,18 +1,17 @@
 // What becomes of an event: refused, ignored or handled.
 ghost use Rattle.std.specs.Prelude.{◌≡◌, cond, eqb};
+ghost use Rattle.decision.specs.Also.{decided_also};
 ghost use Rattle.decision.specs.Lent.{lent};
 ghost use Rattle.flat.specs.Flat.{record_in, slots_of};
 ghost use Rattle.flat.specs.Written.{Written};
-ghost use Rattle.record.specs.Limits.{limits};
 ghost use Rattle.protocol.specs.Actions.{no_actions};
-ghost use Rattle.protocol.specs.Step.{decided};
 ghost use Rattle.protocol.specs.declared.Answer.TheVariants.{Ignored, Refused};
 
 use dispatch::move_on;
-use effects::NO_ACTIONS;
+use effects::{NO_ACTIONS, pick};
 use event::Input;
 use flat::{put, slots_of};
-use guards::{holds, late_fault, lowest_fault};
+use guards::{holds, lowest_fault};
 use lifecycle::lock;
 use protocol::{Answer, refusals};
 use record::Connection;
@@ -20,15 +19,17 @@ use table::{IGNORED, next_state, states};
 
 const MAX_HANDLED: u32 = 4_294_967_295;
 
-// Decides an event for a record and writes the actions and, where the event is handled, the record after it.
+// Decides an event for a record and writes the actions and, where the event is handled, the record after it. `also` is a refusal
+// of the host's interface, 0 for none.
 pub fn decide(
     numbers: &mut [u32; 12],
     slots: &mut [u32; 16],
+    also: u32,
     connection: Connection,
     code: u32,
     input: Input,
 ) -> Answer
-    ensures { Written (lent (record_in numbers.old) (decided limits connection code input)) result numbers.new slots.new }
+    ensures { Written (lent (record_in numbers.old) (decided_also also connection code input)) result numbers.new slots.new }
 {
     let fault = lowest_fault(connection, code, input);
     if fault != refusals::NONE {
@@ -36,7 +37,8 @@ pub fn decide(
     }
     let held = holds(connection, code, input);
     let to = next_state(connection.state, connection.awaiting_ack, code, held);
-    let late = late_fault(input);
+    // Refusal 9 or, without its fault, that of the host's interface.
+    let late = pick(input.margin_too_large, refusals::MARGIN_TOO_LARGE, also);
     if to == IGNORED {
         return unmoved(slots, late);
     }

@@ -4,6 +4,7 @@ use mathlib.Core.Path.{◌≡◌, refl, sym, subst, ap, ◌∙◌}
 use mathlib.Core.Bool.{Bool, true, false, not, ◌&&◌, ◌||◌, cond}
 use Prim.Native.Nat.{ℕ, ◌<◌}
 use lib.Dec.{T, eqb}
+use types.Run.{OneOf}
 use borrow.Author.Tests.{eqb-true}
 use Rattle.protocol.specs.Actions.{locking_actions, moving_actions, orders_of, actions_of}
 use Rattle.protocol.specs.Advance.{raised, locked, moved, tags_after, advance}
@@ -33,32 +34,48 @@ fits cancel s e r on = not s && (e && (not r && on))
 fits expire s e r on = not s && (e && r)
 fits clear s e r on = not s && (e && not r)
 
+tag_fits : (x : Effect) (s e r on : Bool) (number tag : ℕ) → eqb tag 0 ≡ not on → T (fits x s e r on) → tag_by x number tag ≡ tag_after s e number tag
+tag_fits keep true e r on n t z f = absurd f
+tag_fits keep false true r true n t z f = absurd f
+tag_fits keep false true r false n t z f = eqb-true t 0 z
+tag_fits keep false false r on n t z f = refl
+tag_fits start true e r on n t z f = refl
+tag_fits start false e r on n t z f = absurd f
+tag_fits cancel true e r on n t z f = absurd f
+tag_fits cancel false true r on n t z f = refl
+tag_fits cancel false false r on n t z f = absurd f
+tag_fits expire true e r on n t z f = absurd f
+tag_fits expire false true r on n t z f = refl
+tag_fits expire false false r on n t z f = absurd f
+tag_fits clear true e r on n t z f = absurd f
+tag_fits clear false true r on n t z f = refl
+tag_fits clear false false r on n t z f = absurd f
+
 -- A timer with tag 0 gets no cancel.
 no_cancel : (r : Bool) → ◌≡◌ {A = ℕ} 0 (cond (not r && false) 2 0)
 no_cancel true = refl
 no_cancel false = refl
 
--- Then its tag and its order are those of the rules.
-by_fits : (x : Effect) (s e r on : Bool) (number tag : ℕ) → eqb tag 0 ≡ not on → T (fits x s e r on) → (tag_by x number tag ≡ tag_after s e number tag) × (order_by x tag ≡ timer_order s e r tag)
-by_fits keep true e r on n t z f = absurd f
-by_fits keep false true r true n t z f = absurd f
-by_fits keep false true r false n t z f = (eqb-true t 0 z, rw z (no_cancel r))
-by_fits keep false false r on n t z f = (refl, refl)
-by_fits start true e r on n t z f = (refl, refl)
-by_fits start false e r on n t z f = absurd f
-by_fits cancel true e r on n t z f = absurd f
-by_fits cancel false true true on n t z f = absurd f
-by_fits cancel false true false true n t z f = (refl, rw z)
-by_fits cancel false true false false n t z f = absurd f
-by_fits cancel false false r on n t z f = absurd f
-by_fits expire true e r on n t z f = absurd f
-by_fits expire false true true on n t z f = (refl, refl)
-by_fits expire false true false on n t z f = absurd f
-by_fits expire false false r on n t z f = absurd f
-by_fits clear true e r on n t z f = absurd f
-by_fits clear false true true on n t z f = absurd f
-by_fits clear false true false on n t z f = (refl, refl)
-by_fits clear false false r on n t z f = absurd f
+order_fits : (x : Effect) (s e r on : Bool) (tag : ℕ) → eqb tag 0 ≡ not on → T (fits x s e r on) → order_by x tag ≡ timer_order s e r tag
+order_fits keep true e r on t z f = absurd f
+order_fits keep false true r true t z f = absurd f
+order_fits keep false true r false t z f = rw z (no_cancel r)
+order_fits keep false false r on t z f = refl
+order_fits start true e r on t z f = refl
+order_fits start false e r on t z f = absurd f
+order_fits cancel true e r on t z f = absurd f
+order_fits cancel false true true on t z f = absurd f
+order_fits cancel false true false true t z f = rw z
+order_fits cancel false true false false t z f = absurd f
+order_fits cancel false false r on t z f = absurd f
+order_fits expire true e r on t z f = absurd f
+order_fits expire false true true on t z f = refl
+order_fits expire false true false on t z f = absurd f
+order_fits expire false false r on t z f = absurd f
+order_fits clear true e r on t z f = absurd f
+order_fits clear false true true on t z f = absurd f
+order_fits clear false true false on t z f = refl
+order_fits clear false false r on t z f = absurd f
 
 -- What event k, from state s to another, does to a timer fits its rules.
 abbrev effect_fits : (s k to : ℕ) → Timer → Bool
@@ -78,7 +95,7 @@ all_fit = tt
 
 -- What that says of an event that moves on.
 record Fit (s k to : ℕ) : Type 0 where
-  moves : moving_code k ≡ k
+  moves : OneOf moving k
   no_timeout : eqb k 20 ≡ false
   effect : (x : Timer) → T (effect_fits s k to x)
 
@@ -86,7 +103,7 @@ fit_by : (s k to : ℕ) → (eqb to 11 || eqb to 9) ≡ false → T (move_fits s
 fit_by s k to e t =
     let m : T (is_in moving k && (not (eqb k 20) && timers (effect_fits s k to))) = rw e at t in
     record {
-      moves = rw (is_in_lem moving k (one_of moving k (and_left (is_in moving k) _ m)));
+      moves = one_of moving k (and_left (is_in moving k) _ m);
       no_timeout = is_false (eqb k 20) (and_left (not (eqb k 20)) _ (and_right (is_in moving k) _ m));
       effect = timers_at (effect_fits s k to) (and_right (not (eqb k 20)) _ (and_right (is_in moving k) _ m));
     }
@@ -121,21 +138,32 @@ module _ (limits : Limits) (connection : Connection) (code : ℕ) (input : Input
       let t = cells_at cell_fits all_fit connection.state code connection.awaiting_ack (holds connection code input) p.state known p.flag in
       fit_by connection.state code to (rw heard stays) (subst (λ (n : ℕ). T (move_fits connection.state code n)) next t)
 
-  fitted : (x : Timer) → (tag_by (effect_of code to x) (raised connection) (tag_of connection x) ≡ tags_after connection code to x) × (order_by (effect_of code to x) (tag_of connection x) ≡ orders_of connection code input to x)
-  fitted x =
-      let f = by_fits (effect_of code to x) (starts x code connection.state to) (ends x to) (reports x code 0) (runs_in x connection.state) (raised connection) (tag_of connection x) (off_is limits connection (parts limits connection well) x) (fitting.effect x) in
-      (f.0, f.1 ∙ ap (λ (r : Bool). timer_order (starts x code connection.state to) (ends x to) r (tag_of connection x)) (reports_by x code input.timer fitting.no_timeout))
+  pub is_moving : OneOf moving code
+  unfolding fitting
+  is_moving = fitting.moves
+
+  tag_of_lem : (x : Timer) → tag_by (effect_of code to x) (raised connection) (tag_of connection x) ≡ tags_after connection code to x
+  tag_of_lem x = tag_fits (effect_of code to x) (starts x code connection.state to) (ends x to) (reports x code 0) (runs_in x connection.state) (raised connection) (tag_of connection x) (off_is limits connection (parts limits connection well) x) (fitting.effect x)
+
+  order_of : (x : Timer) → order_by (effect_of code to x) (tag_of connection x) ≡ orders_of connection code input to x
+  order_of x =
+      order_fits (effect_of code to x) (starts x code connection.state to) (ends x to) (reports x code 0) (runs_in x connection.state) (tag_of connection x) (off_is limits connection (parts limits connection well) x) (fitting.effect x)
+      ∙ ap (λ (r : Bool). timer_order (starts x code connection.state to) (ends x to) r (tag_of connection x)) (reports_by x code input.timer fitting.no_timeout)
 
   -- What the code does for an event that moves on is what the definitions say.
-  pub by_event_lem : by_event (raised connection) connection (moving_code code) input to ≡ handled_to to connection code input
+  pub by_event_lem : by_event (raised connection) connection code input to ≡ handled_to to connection code input
   unfolding advance actions_of
   by_event_lem =
       let effect = effect_of code to in
-      let p = moved_by (λ x. tag_by (effect x) (raised connection) (tag_of connection x)) (tags_after connection code to) (λ x. (fitted x).0) (raised connection) connection code input to in
-      let q = actions_by (λ x. order_by (effect x) (tag_of connection x)) (orders_of connection code input to) (λ x. (fitted x).1) connection code input in
+      let p = moved_by (λ x. tag_by (effect x) (raised connection) (tag_of connection x)) (tags_after connection code to) tag_of_lem (raised connection) connection code input to in
+      let q = actions_by (λ x. order_by (effect x) (tag_of connection x)) (orders_of connection code input to) order_of connection code input in
       let p' = p ∙ sym (otherwise (eqb to 9) (locked (raised connection)) _ stays) in
       let q' = q ∙ sym (otherwise (eqb to 9) (locking_actions (orders_of connection code input to) connection code) _ stays) in
-      ap (λ (k : ℕ). by_event (raised connection) connection k input to) fitting.moves ∙ (λ i. record { answer = Handled; connection = p' i; actions = q' i })
+      λ i. record { answer = Handled; connection = p' i; actions = q' i }
+
+-- The code of such an event is itself.
+pub moving_is : (code : ℕ) → OneOf moving code → moving_code code ≡ code
+moving_is code o = rw (is_in_lem moving code o)
 
 -- What it does for an event that locks, too.
 pub by_locking_lem : (connection : Connection) (code : ℕ) (input : Input) → by_locking (raised connection) connection code input ≡ handled_to 9 connection code input

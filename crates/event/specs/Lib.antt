@@ -1,1 +1,3 @@
+pub mod Kind
 pub mod Call
+pub mod TimeoutTag

@@ -1,7 +1,7 @@
 // The conditions of the events.
 ghost use Rattle.std.specs.Prelude.{◌≡◌};
 ghost use Rattle.protocol.specs.Condition as spec;
-ghost use Rattle.protocol.specs.Kind.{named};
+ghost use Rattle.event.specs.Kind.{named};
 ghost use Rattle.record.specs.Tags.{tag_of};
 
 use event::{Input, timers};

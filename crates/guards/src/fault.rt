@@ -1,7 +1,7 @@
-// The faults of the arguments and of the record.
+// The faults for which a call is refused before the table is looked at.
 ghost use Rattle.std.specs.Prelude.{◌≡◌, ◌∷◌, [], ◌++◌};
-ghost use Rattle.protocol.specs.Faults.{first_of};
-ghost use Rattle.protocol.specs.Refusal.{early_faults, ill_formed, late_faults};
+ghost use Rattle.protocol.specs.Faults.{first_fault, early_faults};
+ghost use Rattle.protocol.specs.Refusal.{ill_formed};
 ghost use Rattle.record.specs.Limits.{limits};
 
 use event::{Input, timers};
@@ -14,7 +14,7 @@ const MAX_BIT: u32 = 1;
 
 // The lowest refusal from 1 to 7 whose fault is present, 0 if none is.
 pub fn lowest_fault(connection: Connection, code: u32, input: Input) -> u32
-    ensures { result ≡ first_of (early_faults code input ++ (ill_formed limits connection ∷ [])) }
+    ensures { result ≡ first_fault 1 (early_faults code input ++ (ill_formed limits connection ∷ [])) }
 {
     if code > codes::ACK_TIMEOUT {
         return refusals::UNKNOWN_CODE;
@@ -36,19 +36,6 @@ pub fn lowest_fault(connection: Connection, code: u32, input: Input) -> u32
     }
     if !well_formed(connection) {
         return refusals::NOT_WELL_FORMED;
-    }
-    refusals::NONE
-}
-
-// Of the faults that are checked last, the refusal of the first that is present, 0 if none is.
-pub fn late_fault(input: Input) -> u32
-    ensures { result ≡ first_of (late_faults input) }
-{
-    if input.margin_too_large {
-        return refusals::MARGIN_TOO_LARGE;
-    }
-    if input.wrong_verdict {
-        return refusals::WRONG_VERDICT;
     }
     refusals::NONE
 }

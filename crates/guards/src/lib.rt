@@ -3,4 +3,4 @@ mod condition;
 mod fault;
 
 pub use crate::condition::holds;
-pub use crate::fault::{late_fault, lowest_fault};
+pub use crate::fault::lowest_fault;

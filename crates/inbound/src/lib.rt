@@ -1,51 +1,62 @@
 // A message that arrived, given to the step. The host hands over the bytes, what it says of the token, and its own lists.
 ghost use Rattle.std.specs.Prelude.{◌≡◌};
-ghost use Rattle.flat.specs.Flat.{record_in};
-ghost use Rattle.flat.specs.Written.{WrittenResult};
-ghost use Rattle.messages.specs.Flat.{flat_in};
+ghost use Rattle.flat.specs.Flat.{record_in, slots_of};
 ghost use Rattle.messages.specs.Outer.{reading_of};
-ghost use Rattle.inbound.specs.Received.{given, received};
+ghost use Rattle.inbound.specs.Received.{first_entries, given, place_in, received};
 
-use arrival::{Token, event_of};
+use arrival::{Token, also_of, event_of};
 use connection::{Answer, refusals, step_flat};
 use effects::NO_ACTIONS;
 use flat::slots_of;
 use messages::{Span, part, read_flat};
 
-// The answer, and where the token or payload lies in the bytes; 0 where there is none.
+// The answer, and where the token or payload lies in the bytes.
 #[derive(Drop)]
 pub struct Receipt {
     pub answer: Answer,
     pub place: usize,
 }
 
-// Reads a message and steps with the event that it is. Bytes that are refused order nothing and change neither record nor cache.
+// The first entries of a list; none where it has not so many.
+fn first(list: &[u32], count: usize) -> &[u32]
+    ensures { result.now ≡ first_entries count list.now }
+{
+    if count > list.len() {
+        return &list[..0];
+    }
+    &list[..count]
+}
+
+// Reads a message and steps with the event that it is. Bytes that are refused change nothing. `token_refusal` is a refusal
+// of the host's interface, 0 for none: it is given for a message with a token where the step refuses nothing.
 pub fn receive(
     numbers: &mut [u32; 12],
     bytes: &[u8],
     token: Token,
+    token_refusal: u32,
     our_verifiers: &[u32],
     our_provers: &[u32],
     cache: &mut [u8],
     slots: &mut [u32; 16],
 ) -> Receipt
-    ensures written_result { WrittenResult
-        (received (record_in numbers.old) bytes.now (given token our_verifiers.now our_provers.now) cache.old)
-        result.answer numbers.new slots.new cache.new }
-    ensures place_value { result.place ≡ (flat_in (reading_of bytes.now)).place }
+    ensures answer_value { result.answer ≡ (received (record_in numbers.old) bytes.now (given token token_refusal our_verifiers.now our_provers.now) cache.old).outcome.answer }
+    ensures numbers_after { record_in numbers.new ≡ (received (record_in numbers.old) bytes.now (given token token_refusal our_verifiers.now our_provers.now) cache.old).outcome.connection }
+    ensures slots_after { slots.new ≡ slots_of (received (record_in numbers.old) bytes.now (given token token_refusal our_verifiers.now our_provers.now) cache.old).outcome.actions }
+    ensures cache_after { cache.new ≡ (received (record_in numbers.old) bytes.now (given token token_refusal our_verifiers.now our_provers.now) cache.old).cache }
+    ensures place_value { result.place ≡ place_in (reading_of bytes.now) }
 {
     let mut provers = [0; 16];
     let mut verifiers = [0; 16];
     let message = read_flat(bytes, &mut provers, &mut verifiers);
-    let place = message.place;
     let refusal = message.refusal;
     if refusal > refusals::NONE {
         *slots = slots_of(NO_ACTIONS);
         return Receipt {
             answer: Answer::Refused(refusal),
-            place,
+            place: 0,
         };
     }
+    let place = message.place;
     let payload = part(
         bytes,
         Span {
@@ -53,15 +64,14 @@ pub fn receive(
             size: message.size,
         },
     );
-    let prover_count = message.provers;
-    let verifier_count = message.verifiers;
     let answer = step_flat(
         numbers,
+        also_of(message.number, token_refusal),
         event_of(message.number, message.bit, token),
         payload,
         our_verifiers,
-        &provers[..prover_count],
-        &verifiers[..verifier_count],
+        first(&provers, message.provers),
+        first(&verifiers, message.verifiers),
         our_provers,
         cache,
         slots,

@@ -1,2 +1,4 @@
 pub mod Answer
 pub mod Choice
+pub mod Event
+pub mod Verdict

@@ -1,11 +1,12 @@
 // The suite choice in numbers.
 ghost use Rattle.std.specs.Prelude.{◌≡◌};
 ghost use Rattle.interface.specs.Choice.{chosen_of};
-ghost use Rattle.suites.specs.Numbers.{answer_of};
+ghost use Rattle.flat.specs.Flat.{as_number};
+ghost use Rattle.suites.specs.Numbers.{answer_of, found_of};
 
 use flat::as_number;
 use protocol::refusals;
-use suites::{Choice, is_found, number_in};
+use suites::{Choice, Common};
 
 // The number of its refusal, 0 for none.
 pub fn refusal_in(choice: Choice) -> u32
@@ -28,9 +29,27 @@ pub fn numbers_in(choice: Choice) -> [u32; 4]
         return [0, 0, 0, 0];
     };
     [
-        as_number(is_found(verifier)),
-        number_in(verifier),
-        as_number(is_found(prover)),
-        number_in(prover),
+        found(verifier),
+        number(verifier),
+        found(prover),
+        number(prover),
     ]
+}
+
+fn found(common: Common) -> u32
+    ensures { result ≡ as_number (found_of common).found }
+{
+    let Common::Suite(_) = common else {
+        return as_number(false);
+    };
+    as_number(true)
+}
+
+fn number(common: Common) -> u32
+    ensures { result ≡ (found_of common).suite }
+{
+    let Common::Suite(number) = common else {
+        return 0;
+    };
+    number
 }

@@ -1,4 +1,91 @@
-// What hosts in C get as numbers: answers, seconds left and the suite choice.
+// What hosts in C hand over and get, as numbers: events with a verdict that is a number, answers, seconds left and the
+// suite choice.
+ghost use Rattle.std.specs.Prelude.{◌≡◌};
+ghost use Rattle.interface.specs.Event.{event_of, flat_event_with};
+ghost use Rattle.interface.specs.Verdict.{refused_as, wrong_verdict};
+
 pub mod answer;
 pub mod choice;
 pub mod time;
+
+use event::Event;
+use protocol::refusals;
+use table::codes;
+
+const YES: u32 = 1;
+
+// A verdict that is neither 0 nor 1.
+const WRONG_VERDICT: u32 = 41;
+
+// An event as a host in C hands it over: `Event` with the verdict as a number.
+#[repr(C)]
+#[derive(Drop)]
+pub struct FlatEvent {
+    pub code: u32,
+    pub tag: u32,
+    pub timer: u32,
+    pub bit: u32,
+    pub verdict: u32,
+    pub margin: u32,
+    pub expiry: i64,
+    pub now: i64,
+}
+
+// What a host says of a token, with its verdict as a number.
+#[repr(C)]
+#[derive(Drop)]
+pub struct FlatToken {
+    pub verdict: u32,
+    pub margin: u32,
+    pub expiry: i64,
+    pub now: i64,
+}
+
+// The event of document 01.
+pub fn event_of(flat: FlatEvent) -> Event
+    ensures { result ≡ event_of flat }
+{
+    Event {
+        code: flat.code,
+        tag: flat.tag,
+        timer: flat.timer,
+        bit: flat.bit,
+        verdict: flat.verdict == YES,
+        margin: flat.margin,
+        expiry: flat.expiry,
+        now: flat.now,
+    }
+}
+
+fn wrong_verdict(flat: FlatEvent) -> bool
+    ensures { result ≡ wrong_verdict flat }
+{
+    ((flat.code == codes::SC_HELLO) | (flat.code == codes::SC_DAT)) & (flat.verdict > YES)
+}
+
+// The interface's own refusal of an event, 0 for none.
+pub fn refused_as(flat: FlatEvent) -> u32
+    ensures { result ≡ refused_as flat }
+{
+    if wrong_verdict(flat) {
+        WRONG_VERDICT
+    } else {
+        refusals::NONE
+    }
+}
+
+// An event with a bit, and with what the host says of the token. A message carries no tag and names no timer.
+pub fn event_in(code: u32, bit: u32, token: FlatToken) -> FlatEvent
+    ensures { result ≡ flat_event_with code bit token }
+{
+    FlatEvent {
+        code,
+        tag: 0,
+        timer: 0,
+        bit,
+        verdict: token.verdict,
+        margin: token.margin,
+        expiry: token.expiry,
+        now: token.now,
+    }
+}

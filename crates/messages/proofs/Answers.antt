@@ -1,10 +1,9 @@
 -- What is promised of a message as numbers and as an enum.
 use mathlib.Core.Path.{◌≡◌, refl, sym, ap, subst, ◌∙◌}
 use mathlib.Core.List.{List, []}
-use Prim.Native.Nat.{ℕ, ◌+◌, ◌≤◌}
+use Prim.Native.Nat.{ℕ, ◌≤◌}
 use native.Mathlib.Omega.{arith}
 use borrow.Author.Tests.{ne_eqb}
-use lib.ListN.{length}
 use Rattle.fault.specs.Fault.{Reading, read_as}
 use Rattle.fault.specs.Refusals.{refusal_number}
 use Rattle.fault.specs.declared.Refusal.{Refusal}
@@ -16,11 +15,8 @@ use Rattle.fields.specs.declared.Contents.TheVariants.{Hello, Plain, Fault}
 use Rattle.fields.specs.declared.Span.{Span}
 use Rattle.fields.proofs.Onward.{no_entries}
 use Rattle.messages.specs.Flat.{Known, flat_in, reading_by}
-use Rattle.messages.specs.Outer.{reading_of}
-use Rattle.messages.specs.Promised.{ReadGives}
 use Rattle.messages.specs.Whole.{KnownContents, carried, flat_of, mapped}
 use Rattle.messages.specs.declared.flat.FlatMessage.{FlatMessage}
-use Rattle.messages.proofs.Laws.{numbers_lie}
 use Rattle.messages.proofs.Lengths.{length_entries}
 
 -- What was read of one of the nine messages.
@@ -68,21 +64,19 @@ known (Hello held) h = (λ e. (omega arith, omega arith), λ e. absurd (e refl))
 known (Plain number part bit) h = (λ e. (omega (arith, h.0), h.1), λ e. absurd (e refl))
 known (Fault refusal) h = let f = five refusal in (λ e. absurd (omega (arith, e, f.0)), λ e. (refl, f))
 
--- What `read_flat` promises, by the contents that were read.
-pub read_gives : (bytes provers verifiers : List ℕ) (m : FlatMessage) (provers' verifiers' : List ℕ) (c : Contents) → m ≡ flat_of c →
-    Promised c (reading_of bytes) provers verifiers provers' verifiers' → ReadGives bytes provers verifiers m provers' verifiers'
-read_gives bytes provers verifiers m provers' verifiers' c e p =
-    let is : flat_of c ≡ flat_in (reading_of bytes) = numbers c provers' verifiers' ∙ ap flat_in p.0 in
-    subst (λ (q : FlatMessage). ReadGives bytes provers verifiers q provers' verifiers') (sym e)
-    record {
-      message_is = is;
-      provers_are = p.1.0;
-      verifiers_are = p.1.1.0;
-      says = says c provers' verifiers' ∙ p.0;
-      counts = counts c p.1.1.1;
-      lies = subst (λ (q : FlatMessage). q.place + q.size ≤ length bytes) (sym is) (numbers_lie bytes);
-      known = known c p.1.1.1;
-    }
+-- What `read_flat` promises of its answer.
+pub record Flattened (m : FlatMessage) (reading : Reading Message) (provers verifiers : List ℕ) : Type 0 where
+  pub numbers : m ≡ flat_in reading
+  pub says : reading_by m provers verifiers ≡ reading
+  pub counts : (m.provers ≤ 16) × (m.verifiers ≤ 16)
+  pub known : Known m
+
+pub flattened : (m : FlatMessage) (c : Contents) (reading : Reading Message) (provers verifiers : List ℕ) → m ≡ flat_of c → contents_in c provers verifiers ≡ reading → KnownContents c →
+    Flattened m reading provers verifiers
+flattened m c reading provers verifiers e r k =
+    subst (λ (q : FlatMessage). Flattened q reading provers verifiers) (sym e)
+    (subst (λ (q : Reading Message). Flattened (flat_of c) q provers verifiers) r
+    record { numbers = numbers c provers verifiers; says = says c provers verifiers; counts = counts c k; known = known c k })
 
 -- What contents say that are a message without lists, by its number.
 pub says_plain : (c : Contents) (number : ℕ) (part : Span) (bit : ℕ) → c ≡ Plain number part bit → (n : ℕ) → ((2 ≤ number) × (number ≤ 9) → number ≡ n) → KnownContents c →

@@ -1,18 +1,17 @@
 -- Laws of the definition of reading.
-use mathlib.Core.Path.{◌≡◌, refl, subst}
+use mathlib.Core.Path.{◌≡◌, subst}
 use mathlib.Core.List.{List, [], ◌∷◌}
 use Prim.Native.Nat.{ℕ, ◌+◌, ◌≤◌}
 use native.Mathlib.Omega.{arith}
 use lib.ListN.{length, take}
 use lib.Seq.{length-take-le}
-use Rattle.fault.specs.Fault.{Reading, leftmost, read_as, refused}
+use Rattle.fault.specs.Fault.{leftmost}
 use Rattle.wire.specs.Layout.{Block, block, faulty, block_at, fields_from, field_number}
 use Rattle.wire.specs.Varint.{Number, value, fault, number_at}
 use Rattle.fault.proofs.First.{leftmost_first, none_first, read_none, refused_some}
 use Rattle.wire.proofs.Places.{BlockStands, block_stands}
 use Rattle.fields.specs.Schema.{Form, Unknown, Bytes, Provers, Verifiers, Bit, form_in}
 use Rattle.fields.specs.Message.{Message, empty, start_in, size_in, filled, with_field, with_fields, message_in}
-use Rattle.messages.specs.Flat.{flat_in}
 use Rattle.messages.specs.Laws.{RefusedByFirst, MessageFaultless, PartLies}
 use Rattle.messages.specs.Outer.{faults_of, message_by, message_of, reading_of}
 
@@ -68,11 +67,3 @@ message_lies bytes = by_key (number_at bytes 0)
 pub part_lies : PartLies
 unfolding reading_of
 part_lies bytes m e = subst (Lies bytes) (read_none (message_of bytes) (leftmost (faults_of bytes)) m e).1 (message_lies bytes)
-
--- So does the part that the numbers of a reading name.
-pub numbers_lie : (bytes : List ℕ) → (flat_in (reading_of bytes)).place + (flat_in (reading_of bytes)).size ≤ length bytes
-numbers_lie bytes = by_reading (reading_of bytes) refl
-  where
-    by_reading : (r : Reading Message) → reading_of bytes ≡ r → (flat_in r).place + (flat_in r).size ≤ length bytes
-    by_reading (read_as m) e = part_lies bytes m e
-    by_reading (refused number) e = omega arith

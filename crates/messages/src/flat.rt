@@ -1,6 +1,8 @@
 // A message as numbers, for a caller that cannot take an enum.
-ghost use Rattle.std.specs.Prelude.{◌≡◌};
-ghost use Rattle.messages.specs.Promised.{ReadGives};
+ghost use Rattle.std.specs.Prelude.{◌≡◌, ◌≤◌};
+ghost use Rattle.fields.specs.Contents.{provers_after, verifiers_after};
+ghost use Rattle.messages.specs.Flat.{Known, flat_in, reading_by};
+ghost use Rattle.messages.specs.Outer.{reading_of};
 ghost use Rattle.messages.specs.Whole.{flat_of};
 
 use crate::outer::contents_of;
@@ -59,7 +61,12 @@ fn flat_of(contents: Contents) -> FlatMessage
 // Reads one message. The suites of a hello are written to the two lists, followed by zeros; for any other message, and
 // for bytes that are refused, both keep their entries.
 pub fn read_flat(bytes: &[u8], provers: &mut [u32; 16], verifiers: &mut [u32; 16]) -> FlatMessage
-    ensures { ReadGives bytes.now provers.old verifiers.old result provers.new verifiers.new }
+    ensures value { result ≡ flat_in (reading_of bytes.now) }
+    ensures provers_after { provers.new ≡ provers_after (reading_of bytes.now) provers.old }
+    ensures verifiers_after { verifiers.new ≡ verifiers_after (reading_of bytes.now) verifiers.old }
+    ensures verifiers_after_2 { reading_by result provers.new verifiers.new ≡ reading_of bytes.now }
+    ensures provers_bound { (result.provers ≤ 16) × (result.verifiers ≤ 16) }
+    ensures known { Known result }
 {
     flat_of(contents_of(bytes, provers, verifiers))
 }

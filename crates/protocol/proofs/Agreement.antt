@@ -1,6 +1,6 @@
 -- Demand 3: after every call of any list the step agrees with the history.
 -- Assumes nothing.
-use mathlib.Core.Path.{◌≡◌, refl, sym, subst, subst⁻¹, ap, ◌∙◌}
+use mathlib.Core.Path.{◌≡◌, refl, subst, subst⁻¹, ap, ◌∙◌}
 use mathlib.Core.Bool.{Bool, true, false, not, ◌&&◌, cond}
 use mathlib.Core.List.{List, ◌∷◌}
 use mathlib.Core.Option.{Option}
@@ -8,18 +8,16 @@ use Prim.Native.Nat.{ℕ}
 use lib.Dec.{T, eqb}
 use lib.ListN.{length}
 use borrow.Author.Tests.{eqb-true}
-use Rattle.event.specs.Call.{Call}
-use Rattle.protocol.specs.Input.{input_of}
+use Rattle.event.specs.Call.{Call, input_of}
 use Rattle.record.specs.Limits.{Limits}
 use Rattle.record.specs.WellFormed.{fresh, well_formed}
 use Rattle.table.specs.Table.{ignored}
 use Rattle.protocol.specs.Agreement.{Block, is_handled, AgreesWith, no_past, past_after, Demand3}
 use Rattle.protocol.specs.Block.{part_of}
 use Rattle.protocol.specs.Condition.{next_state}
-use Rattle.protocol.specs.Arguments.{checked_first, checked_last}
-use Rattle.protocol.specs.Faults.{Row, row, first_of}
+use Rattle.protocol.specs.Faults.{early_faults, late_faults, first_fault, early, late}
 use Rattle.protocol.specs.History.{History, hear, counts, notes_after, counted, refusal_to, answer_to, keep, history_after, state_of}
-use Rattle.protocol.specs.Refusal.{early_faults, ill_formed, exhausted, late_faults, refusal}
+use Rattle.protocol.specs.Refusal.{ill_formed, exhausted, refusal}
 use Rattle.protocol.specs.Step.{unchanged, handled_to, result_of}
 use Rattle.protocol.specs.declared.Answer.{Answer}
 use Rattle.protocol.specs.declared.Answer.TheVariants.{Handled, Ignored, Refused}
@@ -30,7 +28,6 @@ use Rattle.protocol.proofs.Carried.{Waits, Carried, unmoved, leads_there, heeded
 use Rattle.protocol.proofs.Faults.{first_of_lem, none_of}
 use Rattle.protocol.proofs.Follows.{Follows, follows_first, well_formed_lem}
 use Rattle.protocol.proofs.Kept.{leads}
-use Rattle.protocol.proofs.Reading.{same_early, same_late}
 use Rattle.protocol.proofs.Stepped.{still, outcome_by, result_by, Faultless, faultless}
 use Rattle.table.proofs.Finite.{is_true}
 
@@ -43,11 +40,11 @@ module _ (limits : Limits) (history : History) (accepted : Option Block) (connec
   read = input_of limits call (length cache)
 
   abbrev counting : Bool
-  counting = counts history.notes code (hear history call)
+  counting = counts history.notes code (hear history read)
 
   -- The state that the notes lead to.
   abbrev to : ℕ
-  to = state_of (notes_after history.notes code (hear history call))
+  to = state_of (notes_after history.notes code (hear history read))
 
   module _ (arguments : Faultless limits call (length cache)) where
     -- Without faults 1 to 6 the table ignores what does not count.
@@ -63,41 +60,28 @@ module _ (limits : Limits) (history : History) (accepted : Option Block) (connec
     handles false c = ap (λ (s : ℕ). not (eqb s ignored)) (passes_over c)
 
     -- So fault 8 is present where the history has it.
-    same_exhausted : exhausted limits connection code read ≡ row 8 (counting && eqb history.count limits.handled)
-    same_exhausted = λ i. row 8 (handles counting refl i && eqb (R.number i) limits.handled)
+    same_exhausted : exhausted limits connection code read ≡ (counting && eqb history.count limits.handled)
+    same_exhausted = λ i. handles counting refl i && eqb (R.number i) limits.handled
+
+  no_early : eqb (early code read) 0 ≡ true → Faultless limits call (length cache)
+  no_early e = faultless limits call (length cache) (none_of 0 (early_faults code read) (eqb-true (early code read) 0 e))
 
   -- Fault 7 is absent.
-  not_ill_formed : not (well_formed limits connection) ≡ false
+  not_ill_formed : ill_formed limits connection ≡ false
   not_ill_formed = ap not (is_true (well_formed limits connection) (well_formed_lem limits (length cache) history connection cache R))
-
-  -- The faults that are checked first, as the history has them, and the others, as the step and the history have them.
-  abbrev first : List Row
-  first = checked_first limits (length cache) code call
-
-  abbrev others : List Row
-  others = ill_formed limits connection ∷ exhausted limits connection code read ∷ late_faults read
-
-  abbrev others_to : List Row
-  others_to = row 8 (counting && eqb history.count limits.handled) ∷ checked_last code call
-
-  none_first : eqb (first_of first) 0 ≡ true → Faultless limits call (length cache)
-  none_first e = faultless limits call (length cache) (none_of (early_faults code read) tt (sym (same_early limits call (length cache)) ∙ eqb-true (first_of first) 0 e))
-
-  same_others : Faultless limits call (length cache) → first_of others ≡ first_of others_to
-  same_others f = λ i. first_of (row 7 (not_ill_formed i) ∷ same_exhausted f i ∷ sym (same_late limits call (length cache) f.code) i)
 
   -- The history's refusal is the step's.
   same_number : refusal limits connection code read ≡ refusal_to limits (length cache) history call
   unfolding refusal refusal_to
   same_number =
-      first_of_lem (early_faults code read) others tt
-      ∙ (λ i. let n = sym (same_early limits call (length cache)) i in cond (eqb n 0) (first_of others) n)
-      ∙ by_first (eqb (first_of first) 0) refl
-      ∙ sym (first_of_lem first others_to tt)
+      first_of_lem 0 (early_faults code read) (ill_formed limits connection ∷ exhausted limits connection code read ∷ late_faults read)
+      ∙ by_lower (eqb (early code read) 0) refl
     where
-      by_first : (none : Bool) → eqb (first_of first) 0 ≡ none → cond none (first_of others) (first_of first) ≡ cond none (first_of others_to) (first_of first)
-      by_first true e = same_others (none_first e)
-      by_first false e = refl
+      by_lower : (free : Bool) → eqb (early code read) 0 ≡ free
+          → cond free (first_fault 7 (ill_formed limits connection ∷ exhausted limits connection code read ∷ late_faults read)) (early code read)
+          ≡ cond free (cond (counting && eqb history.count limits.handled) 8 (late read)) (early code read)
+      by_lower true e = λ i. first_fault 7 (not_ill_formed i ∷ same_exhausted (no_early e) i ∷ late_faults read)
+      by_lower false e = refl
 
   -- A call that is not handled, given its result.
   rests : (answer : Answer) → is_handled answer ≡ false → result_of limits connection call cache ≡ still answer connection cache
@@ -115,16 +99,18 @@ module _ (limits : Limits) (history : History) (accepted : Option Block) (connec
 
   arguments_fit : eqb number 0 ≡ true → Faultless limits call (length cache)
   unfolding refusal_to
-  arguments_fit e = by_first (eqb (first_of first) 0) refl (rw (first_of_lem first others_to tt) at e)
+  arguments_fit = by_lower (eqb (early code read) 0) refl
     where
-      by_first : (none : Bool) → eqb (first_of first) 0 ≡ none → eqb (cond none (first_of others_to) (first_of first)) 0 ≡ true → Faultless limits call (length cache)
-      by_first true e n = none_first e
-      by_first false e n = none_first n
+      by_lower : (free : Bool) → eqb (early code read) 0 ≡ free
+          → eqb (cond free (cond (counting && eqb history.count limits.handled) 8 (late read)) (early code read)) 0 ≡ true
+          → Faultless limits call (length cache)
+      by_lower true e n = no_early e
+      by_lower false e n = no_early n
 
   -- The step and the history, by whether there is a refusal and whether the event counts.
   carried_by : (free takes : Bool) → eqb number 0 ≡ free → counting ≡ takes
       → let answer = cond free (cond takes Handled Ignored) (Refused number) in
-      Carried limits (length cache) history accepted call answer (keep answer history (counted history call)) (result_of limits connection call cache)
+      Carried limits (length cache) history accepted call answer (keep answer history (counted history code read call.payload)) (result_of limits connection call cache)
   unfolding part_of
   carried_by false takes e c =
       rests (Refused number) refl
@@ -138,7 +124,7 @@ module _ (limits : Limits) (history : History) (accepted : Option Block) (connec
   carried_by true true e c =
       let takes = subst⁻¹ T c tt in
       let there = leads_there limits history accepted connection cache R W call (arguments_fit e) takes in
-      subst⁻¹ (Carried limits (length cache) history accepted call Handled (counted history call))
+      subst⁻¹ (Carried limits (length cache) history accepted call Handled (counted history code read call.payload))
       (result_by limits connection call cache (handled_to to connection code read)
       (outcome_by limits connection call cache true false (free_as true e) (ap (λ (s : ℕ). eqb s ignored) there ∙ heeded limits history accepted connection cache R W call (arguments_fit e) takes)
       ∙ (λ i. handled_to (there i) connection code read)))

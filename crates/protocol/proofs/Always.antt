@@ -1,19 +1,18 @@
 -- Every record reached from a fresh one is well formed, the number never falls, a locked connection stays locked and orders nothing.
 -- Assumes nothing.
-use mathlib.Core.Path.{◌≡◌, refl, sym, subst, subst⁻¹, ◌∙◌}
-use mathlib.Core.List.{List, [], ◌∷◌}
+use mathlib.Core.Path.{◌≡◌, refl, sym, subst, subst⁻¹, ap, ◌∙◌}
+use mathlib.Core.List.{List, [], ◌∷◌, ◌++◌}
 use mathlib.Core.Option.{Option, none}
 use Prim.Native.Nat.{ℕ, ◌≤◌}
 use native.Mathlib.Omega.{arith}
 use lib.Dec.{T}
 use lib.ListN.{length}
 use borrow.Author.Tests.{eq-eqb}
-use Rattle.event.specs.Call.{Call}
-use Rattle.protocol.specs.Input.{input_of}
+use Rattle.event.specs.Call.{Call, input_of}
 use Rattle.record.specs.Limits.{Limits}
 use Rattle.record.specs.WellFormed.{fresh, well_formed}
 use Rattle.protocol.specs.Agreement.{Block}
-use Rattle.protocol.specs.Always.{ReachedWellFormed, NeverFalls, Unmoved, AllUnmoved, LockedStays}
+use Rattle.protocol.specs.Always.{Reached, ReachedWellFormed, NeverFalls, Unmoved, AllUnmoved, LockedStays}
 use Rattle.protocol.specs.History.{History, first}
 use Rattle.protocol.specs.Run.{Left, left_of, results_of}
 use Rattle.protocol.specs.Step.{result_of}
@@ -25,6 +24,29 @@ use Rattle.protocol.proofs.Blocks.{handled_blocks}
 use Rattle.protocol.proofs.Follows.{Follows, follows_first, well_formed_lem}
 use Rattle.protocol.proofs.Moved.{advanced}
 use Rattle.protocol.proofs.Stepped.{Stepped, refused, ignored, handled, stepped, next, still}
+
+-- A fresh record is reached, and a call leads from reached to reached.
+pub fresh_reached : (limits : Limits) (cache : List ℕ) → Reached limits (record { connection = fresh; cache = cache })
+unfolding left_of results_of
+fresh_reached limits cache = record { cache = cache; calls = []; leaves = refl }
+
+left_after : (limits : Limits) (connection : Connection) (cache : List ℕ) (calls more : List Call)
+    → left_of limits connection cache (calls ++ more) ≡ (let left = left_of limits connection cache calls in left_of limits left.connection left.cache more)
+unfolding left_of results_of
+left_after limits connection cache [] more = refl
+left_after limits connection cache (call ∷ calls) more =
+    let result = result_of limits connection call cache in
+    left_after limits result.outcome.connection result.cache calls more
+
+pub step_reached : (limits : Limits) (left : Left) → Reached limits left → (call : Call)
+    → let result = result_of limits left.connection call left.cache in
+    Reached limits (record { connection = result.outcome.connection; cache = result.cache })
+unfolding left_of results_of
+step_reached limits left r call = record {
+  cache = r.cache;
+  calls = r.calls ++ (call ∷ []);
+  leaves = left_after limits fresh r.cache r.calls (call ∷ []) ∙ ap (λ (l : Left). left_of limits l.connection l.cache (call ∷ [])) r.leaves;
+}
 
 left_well_formed : (limits : Limits) (size : ℕ) (history : History) (accepted : Option Block) (connection : Connection) (cache : List ℕ)
     → Follows limits size history connection cache → Waits history accepted → (calls : List Call) → T (well_formed limits (left_of limits connection cache calls).connection)

@@ -9,12 +9,10 @@ use native.Mathlib.Omega.{arith}
 use lib.Dec.{T, eqb}
 use lib.ListN.{length}
 use borrow.Author.Tests.{eqb-true, ne_eqb}
-use Rattle.event.specs.Call.{Call}
-use Rattle.protocol.specs.Input.{input_of}
+use Rattle.event.specs.Call.{Call, input_by, input_of}
 use Rattle.event.specs.declared.Input.{Input}
 use Rattle.record.specs.Limits.{Limits}
 use Rattle.record.specs.Tags.{tag_of, runs_in}
-use Rattle.record.specs.Timer.{Timer}
 use Rattle.record.specs.WellFormed.{fresh}
 use Rattle.record.specs.declared.Connection.{Connection}
 use Rattle.table.specs.Table as table
@@ -23,7 +21,7 @@ use Rattle.protocol.specs.Advance.{raised}
 use Rattle.protocol.specs.Agreement.{is_handled, when}
 use Rattle.protocol.specs.Audit.{Task, timer_of, order_to, ending, may_get, reports_end, Ledger, nothing_runs, is_on, is_on_with, reported, is_seen, still_running, after_order, entered, Audited, Audit}
 use Rattle.protocol.specs.Condition.{Condition, is_live, meets, holds, next_state}
-use Rattle.protocol.specs.Live.{is_live_from, is_live_event}
+use Rattle.protocol.specs.Live.{is_live_by, is_live_event}
 use Rattle.protocol.specs.Orders as order
 use Rattle.protocol.specs.Step.{Result, result_of}
 use Rattle.protocol.specs.Timers.{starts, ends, tag_after}
@@ -32,9 +30,8 @@ use Rattle.protocol.specs.declared.Answer.TheVariants.{Ignored}
 use Rattle.protocol.proofs.Along.{along}
 use Rattle.protocol.proofs.Live.{nothing_live_ignored}
 use Rattle.protocol.proofs.Moved.{advanced}
-use Rattle.protocol.proofs.Reading.{sourced, name_read}
 use Rattle.protocol.proofs.Stepped.{Stepped, refused, ignored, handled, stepped, next, still, moved_to, Unrefused, unrefused}
-use Rattle.protocol.proofs.Tasks.{unordered, may_get_none, order_if, order_to_lem, by_on, goes_with, Fit, fit, comes_from, same_end}
+use Rattle.protocol.proofs.Tasks.{unordered, may_get_none, order_if, order_to_lem, by_on, goes_with, Fit, fit, asks}
 use Rattle.record.proofs.WellFormed.{tag_0, parts, off_is}
 use Rattle.table.proofs.Finite.{and_left, and_right, is_true, implied}
 
@@ -111,19 +108,18 @@ module _ (limits : Limits) (ledger : Ledger) (connection : Connection) (cache : 
   abbrev ended : Task → Bool
   ended task = reports_end task k input.timer
 
-  abbrev says_end : Task → Bool
-  says_end task = reports_end task k call.event.timer
-
   -- What the ledger takes for a report of a task is live.
-  reported_is : (task : Task) → reported ledger call task ≡ (says_end task && is_live call.event.tag (own task))
+  reported_is : (task : Task) → reported ledger call task ≡ (ended task && is_live input.tag (own task))
+  unfolding input_by
   reported_is task =
-      ap (λ (o : Option ℕ). says_end task && is_on_with call.event.tag o) (L.tags task)
-      ∙ ap (λ (b : Bool). says_end task && b) (on_with_law call.event.tag (own task) (eqb (own task) 0) (eqb call.event.tag (own task)) refl refl)
+      ap (λ (o : Option ℕ). ended task && is_on_with input.tag o) (L.tags task)
+      ∙ ap (λ (b : Bool). ended task && b) (on_with_law input.tag (own task) (eqb (own task) 0) (eqb input.tag (own task)) refl refl)
 
   reported_live : (task : Task) → T (reported ledger call task) → T (is_live_event connection call.event)
+  unfolding input_by
   reported_live task t =
       let u = subst T (reported_is task) t in
-      subst⁻¹ (λ (x : Option Timer). T (is_live_from connection call.event.tag x)) (comes_from task k call.event.timer (and_left (says_end task) _ u)) (and_right (says_end task) _ u)
+      subst⁻¹ (λ (c : Condition). T (is_live_by connection input.tag c)) (asks task k input.timer (and_left (ended task) _ u)) (and_right (ended task) _ u)
 
   reports_not_ignored : (task : Task) → T (reported ledger call task) → (result_of limits connection call cache).outcome.answer ≡ Ignored → ⊥
   reports_not_ignored task t = nothing_live_ignored limits connection call cache (reported_live task t)
@@ -165,13 +161,9 @@ module _ (limits : Limits) (ledger : Ledger) (connection : Connection) (cache : 
     report_is : (task : Task) → reported ledger call task ≡ ended task
     unfolding holds
     report_is task =
-        let same = same_end task k call.event.timer input.timer (name_read limits call (length cache)) in
         reported_is task
-        ∙ report_law (says_end task) (is_live call.event.tag (own task)) (λ r.
-        let s = sourced limits call (length cache) U.arguments.code (timer_of task) (comes_from task k call.event.timer r) in
-        subst (λ (tag : ℕ). T (is_live tag (own task))) s.1
-        (subst (λ (c : Condition). T (meets connection input c)) s.0 (implied (ended task) _ (F task).live (subst T same r))))
-        ∙ same
+        ∙ report_law (ended task) (is_live input.tag (own task))
+        (λ r. subst (λ (c : Condition). T (meets connection input c)) (asks task k input.timer r) (implied (ended task) _ (F task).live r))
 
     moves : Checked ledger call (moved_to limits to connection call cache)
     moves = record {

@@ -10,9 +10,8 @@ use lib.Dec.{T, eqb, eqb→eq}
 use lib.ListN.{length, take, length-append}
 use lib.Seq.{take-append_seam, take-length}
 use borrow.Author.Tests.{eqb-true, le-leb}
-use Rattle.event.specs.Call.{Call}
-use Rattle.protocol.specs.Input.{carries_payload, input_by, input_of}
-use Rattle.protocol.specs.Kind.{kind_at, kind_of, fields_of}
+use Rattle.event.specs.Call.{Call, carries_payload, input_by, input_of}
+use Rattle.event.specs.Kind.{kind_at, kind_of, fields_of}
 use Rattle.record.specs.Limits.{Limits}
 use Rattle.record.specs.WellFormed.{well_formed}
 use Rattle.table.specs.Sets.{is_in}

@@ -1,48 +1,36 @@
 -- A call agrees with the history, and what it leaves follows the history after it: calls that change nothing, and handled ones.
 -- Assumes nothing.
 use mathlib.Core.Path.{◌≡◌, refl, sym, subst, subst⁻¹, ap, ◌∙◌}
-use mathlib.Core.Bool.{Bool, true, false, not, ◌&&◌, ◌||◌, cond, and-not_self}
+use mathlib.Core.Bool.{Bool, true, false, not, ◌&&◌, ◌||◌, cond}
 use mathlib.Core.List.{List, [], ◌∷◌}
 use mathlib.Core.Option.{Option, none, some, none-ne-some}
 use Prim.Native.Nat.{ℕ, ◌≤◌, ◌-◌}
 use native.Mathlib.Omega.{arith}
 use lib.Dec.{T, eqb}
-use lib.IntN.{ℤ, pos, negsuc}
 use lib.ListN.{length}
-use lib.Signed.{le_z}
 use borrow.Author.Tests.{ne_eqb}
-use Rattle.event.specs.Call.{Call}
-use Rattle.protocol.specs.Input.{no_suites, chosen_suites, input_by, input_of}
-use Rattle.protocol.specs.Kind.{kind_of, is_yes}
+use Rattle.event.specs.Call.{Call, input_of}
 use Rattle.record.specs.Limits.{Limits}
-use Rattle.record.specs.Timer.{DAT}
-use Rattle.suites.specs.Choice.{any_too_long}
 use Rattle.table.specs.Sets.{is_in}
 use Rattle.table.specs.Table.{ignored}
-use Rattle.token.specs.Good.{good_seconds}
-use Rattle.protocol.specs.Agreement.{Block, block, when, is_handled, data_of, accepted_after, opens_between, token_comes_between, Agrees}
-use Rattle.protocol.specs.Arguments.{seconds_of, is_good_token, choice_of, both_suites}
+use Rattle.protocol.specs.Agreement.{Block, block, when, is_handled, data_of, accepted_after, Agrees}
 use Rattle.protocol.specs.Block.{front}
-use Rattle.protocol.specs.Condition.{condition_of, meets, holds, next_state}
-use Rattle.protocol.specs.History.{History, hear, counts, notes_after, counted, runs, state_of}
-use Rattle.protocol.specs.Notes.{Notes, is_open, attested}
-use Rattle.protocol.specs.Orders as order
+use Rattle.protocol.specs.Condition.{next_state}
+use Rattle.protocol.specs.History.{History, hear, counts, notes_after, counted, state_of}
+use Rattle.protocol.specs.Notes.{Notes, attested}
 use Rattle.protocol.specs.Step.{Result}
-use Rattle.protocol.specs.Timers.{starts, ends, reports, timer_order}
 use Rattle.protocol.specs.declared.Answer.{Answer}
 use Rattle.protocol.specs.declared.Answer.TheVariants.{Handled}
 use Rattle.record.specs.declared.Connection.{Connection}
 use Rattle.event.specs.declared.Input.{Input}
-use Rattle.event.specs.declared.Suites.{Suites}
 use Rattle.protocol.proofs.Blocks.{Blocks, blocks, front_of, when_same}
 use Rattle.protocol.proofs.Follows.{Follows, well_formed_lem}
 use Rattle.protocol.proofs.Kept.{agreed, leads, kept}
-use Rattle.protocol.proofs.Moved.{advanced, Ordered, ordered}
-use Rattle.protocol.proofs.Standings.{Agree, Moves, ruled, alone}
-use Rattle.protocol.proofs.Reading.{read_at}
+use Rattle.protocol.proofs.Moved.{advanced}
+use Rattle.protocol.proofs.Standings.{Moves, ruled, alone}
 use Rattle.protocol.proofs.Stepped.{still, moved_to, Faultless}
 use Rattle.table.proofs.Arms.{at_keys, one_of}
-use Rattle.table.proofs.Finite.{and_left, and_right, is_true, implied}
+use Rattle.table.proofs.Finite.{and_left, and_right, implied}
 
 -- While a block waits it is the one last accepted.
 abbrev pub Waits : History → (accepted : Option Block) → Type 0
@@ -72,10 +60,6 @@ module _ (limits : Limits) (size : ℕ) (history : History) (accepted : Option B
           data_ordered = nothing_handled (is_handled answer) (2 ∷ 23 ∷ []) _ e;
           ack_ordered = nothing_handled (is_handled answer) (18 ∷ []) _ e;
           delivered = nothing_handled (is_handled answer) (18 ∷ []) _ e;
-          dat_seconds = rw (and-not_self (runs history.notes DAT));
-          verifier_suite = rw (and-not_self (is_open history.notes.opening));
-          prover_suite = rw (and-not_self (is_open history.notes.opening));
-          quiet = λ t. (refl, refl);
           guarded = λ t. absurd t;
           last_accepted = λ sent s. absurd (none-ne-some sent s);
         };
@@ -126,33 +110,6 @@ held_block limits size history connection cache R h t =
     ap (λ (n : ℕ). front n cache) (R.length_is ∙ cond_true history.notes.waiting (length history.block) 0 t)
     ∙ front_of (length history.block) cache (omega arith) ∙ R.kept
 
--- A timer's order is a start just if it starts.
-is_start : (started ended reported off : Bool) (tag : ℕ) → eqb tag 0 ≡ off → eqb (timer_order started ended reported tag) order.start ≡ started
-is_start true ended reported off tag e = refl
-is_start false true true off tag e = refl
-is_start false true false true tag e = rw e
-is_start false true false false tag e = rw e
-is_start false false reported off tag e = refl
-
--- The length of a timer that starts where a token comes, which locks nothing.
-length_law : (locks started comes : Bool) (seconds : ℕ) (left : ℤ) → started ≡ comes → (T comes → (locks ≡ false) × (pos seconds ≡ left))
-    → pos (cond locks 0 (cond started seconds 0)) ≡ cond comes left (pos 0)
-length_law locks started true seconds left e h = rw (e, (h tt).0) (h tt).1
-length_law true started false seconds left e h = refl
-length_law false started false seconds left e h = rw e
-
--- A suite is ordered by a hello that does not lock, and is one of those that are read with a hello alone.
-suite_law : (locks hello : Bool) (suites : Suites) (suite : Suites → ℕ) → cond locks 0 (cond hello (suite (cond hello suites no_suites)) 0) ≡ cond (hello && not locks) (suite suites) 0
-suite_law true true suites suite = refl
-suite_law true false suites suite = refl
-suite_law false true suites suite = refl
-suite_law false false suites suite = refl
-
--- The seconds of a good token are its seconds left.
-good_is_left : (left : ℤ) (verdict : Bool) → T (verdict && le_z (pos 1) left) → pos (good_seconds verdict left) ≡ left
-good_is_left (pos n) verdict t = ap (λ (b : Bool). pos (cond b n 0)) (is_true (verdict && le_z (pos 1) (pos n)) t)
-good_is_left (negsuc n) verdict t = absurd (and_right verdict (le_z (pos 1) (negsuc n)) t)
-
 -- A handled call. F: the record after it follows the history after it. G: what the event does to the notes. B: what it does to blocks.
 module _ (limits : Limits) (history : History) (accepted : Option Block) (connection : Connection) (cache : List ℕ)
     (R : Follows limits (length cache) history connection cache) (W : Waits history accepted) (call : Call)
@@ -168,35 +125,24 @@ module _ (limits : Limits) (history : History) (accepted : Option Block) (connec
 
   -- The notes, the history and the result after the event, if it counts.
   abbrev m : Notes
-  m = notes_after n k (hear history call)
+  m = notes_after n k (hear history input)
 
   abbrev after : History
-  after = counted history call
+  after = counted history k input call.payload
 
   abbrev result : Result
   result = moved_to limits (state_of m) connection call cache
 
-  -- The table and the notes agree on the event.
-  together : Agree n k (holds connection k input) (ruled n k (hear history call))
-  together = agreed limits (length cache) history connection cache R call arguments
-
-  -- What it orders, and the suites of its lists.
-  O : Ordered connection k input (state_of m) (eqb (state_of m) 9) result.outcome.actions
-  O = ordered connection k input (state_of m)
-
-  abbrev suites : Suites
-  suites = chosen_suites (any_too_long call.our_verifiers call.peer_provers call.peer_verifiers call.our_provers) (choice_of call)
-
-  module _ (counting : T (counts n k (hear history call))) where
+  module _ (counting : T (counts n k (hear history input))) where
     F : Follows limits (length cache) after result.outcome.connection result.cache
     F = kept limits (length cache) history connection cache R call arguments counting
 
-    G : Moves n k (ruled n k (hear history call)) m
-    G = together.move counting
+    G : Moves n k (ruled n k (hear history input)) m
+    G = (agreed limits (length cache) history connection cache R call arguments).move counting
 
     -- The table leads to the state that the notes stand for then.
     pub leads_there : next_state connection k input ≡ state_of m
-    leads_there = leads limits (length cache) history connection cache R call arguments ∙ cond_true (counts n k (hear history call)) (state_of m) ignored counting
+    leads_there = leads limits (length cache) history connection cache R call arguments ∙ cond_true (counts n k (hear history input)) (state_of m) ignored counting
 
     pub heeded : eqb (state_of m) ignored ≡ false
     heeded = let s = (alone m G.consistent_after).state in ne_eqb (state_of m) ignored (λ e. omega arith)
@@ -240,29 +186,6 @@ module _ (limits : Limits) (history : History) (accepted : Option Block) (connec
         let q = ap (λ (a : Bool). cond a call.payload history.block) (G.accepts_is ∙ e) in
         W w.1 ∙ (λ i. some (block (sym p i) (sym q i)))
 
-    -- The seconds of the token that comes are those that the step reads.
-    seconds_read : T (token_comes_between n m) → (eqb (state_of m) 9 ≡ false) × (pos input.seconds ≡ seconds_of call.event)
-    unfolding holds input_by kind_of
-    seconds_read t =
-        let b = together.token_comes counting t in
-        let good = good_is_left (seconds_of call.event) (is_yes call.event.verdict) in (
-          b.1.1,
-          at_keys (λ j. let read = read_at limits call (length cache) j in T (meets connection read (condition_of j read.timer)) → pos read.seconds ≡ seconds_of call.event) (11 ∷ 13 ∷ [])
-              (λ h. good (and_left (is_good_token call.event) (both_suites call) h), good) k (one_of (11 ∷ 13 ∷ []) k b.0) b.1.0,
-        )
-
-    dat_seconds : pos result.outcome.actions.dat_seconds ≡ cond (token_comes_between n m) (seconds_of call.event) (pos 0)
-    dat_seconds =
-        ap pos O.seconds
-        ∙ length_law (eqb (state_of m) 9) _ (token_comes_between n m) input.seconds (seconds_of call.event)
-        (is_start (starts DAT k connection.state (state_of m)) (ends DAT (state_of m)) (reports DAT k input.timer) (eqb connection.dat 0) connection.dat refl
-        ∙ ap (λ (s : ℕ). starts DAT k s (state_of m)) R.state ∙ G.dat_starts)
-        seconds_read
-
-    suite_is : (suite : Suites → ℕ) → cond (eqb (state_of m) 9) 0 (cond (eqb k 11) (suite input.suites) 0) ≡ cond (opens_between n m) (suite suites) 0
-    unfolding input_by
-    suite_is suite = suite_law (eqb (state_of m) 9) (eqb k 11) suites suite ∙ ap (λ (b : Bool). cond b (suite suites) 0) (sym G.opens_is)
-
     pub moves : Carried limits (length cache) history accepted call Handled after result
     unfolding counted
     moves = record {
@@ -273,10 +196,6 @@ module _ (limits : Limits) (history : History) (accepted : Option Block) (connec
         data_ordered = data_then;
         ack_ordered = B.ack_ordered;
         delivered = B.delivered;
-        dat_seconds = dat_seconds;
-        verifier_suite = O.verifier_suite ∙ suite_is (λ s. s.verifier);
-        prover_suite = O.prover_suite ∙ suite_is (λ s. s.prover);
-        quiet = λ t. absurd t;
         guarded = λ t. let g = implied (is_in (2 ∷ 23 ∷ []) k || eqb k 18) (attested n && attested m) G.guarded (subst T (λ i. B.is_data i || B.delivers i) t) in (and_left (attested n) (attested m) g, and_right (attested n) (attested m) g);
         last_accepted = λ sent e.
             let s = when_some (is_in (2 ∷ 23 ∷ []) k) _ sent (sym data_then ∙ e) in

@@ -8,10 +8,10 @@ use Rattle.table.specs.Table.{cell}
 use Rattle.protocol.specs.Actions.{actions_of}
 use Rattle.protocol.specs.Advance.{advance}
 use Rattle.protocol.specs.Block.{part_of}
-use Rattle.protocol.specs.Input.{input_by}
+use Rattle.event.specs.Call.{input_by}
 use Rattle.protocol.specs.Cases.{Holds, AllHold, cases}
 use Rattle.protocol.specs.Condition.{holds, next_state}
-use Rattle.protocol.specs.Kind.{kind_of}
+use Rattle.event.specs.Kind.{kind_of}
 use Rattle.protocol.specs.Refusal.{refusal}
 use Rattle.protocol.specs.Run.{results_of}
 use Rattle.protocol.specs.Step.{decided, result_of}

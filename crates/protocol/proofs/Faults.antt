@@ -1,49 +1,36 @@
--- Laws of rows of faults.
+-- Laws of lists of faults.
 -- Assumes nothing.
-use mathlib.Core.Path.{◌≡◌, refl, sym, subst, ◌∙◌}
-use mathlib.Core.Bool.{Bool, true, false, not, ◌&&◌, cond}
+use mathlib.Core.Path.{◌≡◌, refl}
+use mathlib.Core.Bool.{Bool, true, false, cond}
 use mathlib.Core.List.{List, [], ◌∷◌, ◌++◌}
-use Prim.Native.Nat.{ℕ}
-use lib.Dec.{T, eqb}
-use borrow.Author.Tests.{eq-eqb}
-use Rattle.protocol.specs.Faults.{Row, first_of}
-use Rattle.table.proofs.Finite.{and_left, and_right, is_false}
+use Prim.Native.Nat.{ℕ, suc}
+use native.Mathlib.Omega.{arith}
+use lib.Dec.{eqb}
+use borrow.Author.Tests.{ne_eqb}
+use Rattle.protocol.specs.Faults.{first_fault}
 
--- No row has the number 0, which stands for no fault. Whether the faults are present does not matter.
-abbrev pub numbered : List Row → Bool
-numbered [] = true
-numbered (x ∷ xs) = not (eqb x.number 0) && numbered xs
-
-head_numbered : (x : Row) (xs : List Row) → T (numbered (x ∷ xs)) → eqb x.number 0 ≡ false
-head_numbered x xs t = is_false (eqb x.number 0) (and_left (not (eqb x.number 0)) (numbered xs) t)
-
-rest_numbered : (x : Row) (xs : List Row) → T (numbered (x ∷ xs)) → T (numbered xs)
-rest_numbered x xs t = and_right (not (eqb x.number 0)) (numbered xs) t
+-- The number after those of a list of faults.
+abbrev after : ℕ → List Bool → ℕ
+after n [] = n
+after n (x ∷ xs) = after (suc n) xs
 
 -- The first fault of two lists: the first list's if it has one, else the second's.
-by_present : (b : Bool) (n first rest joined : ℕ) → eqb n 0 ≡ false → joined ≡ cond (eqb first 0) rest first
-    → cond b n joined ≡ cond (eqb (cond b n first) 0) rest (cond b n first)
-by_present true n first rest joined e p = rw e
-by_present false n first rest joined e p = p
-
-pub first_of_lem : (xs ys : List Row) → T (numbered xs) → first_of (xs ++ ys) ≡ cond (eqb (first_of xs) 0) (first_of ys) (first_of xs)
-first_of_lem [] ys t = refl
-first_of_lem (x ∷ xs) ys t = by_present x.present x.number (first_of xs) (first_of ys) (first_of (xs ++ ys)) (head_numbered x xs t) (first_of_lem xs ys (rest_numbered x xs t))
+pub first_of_lem : (n : ℕ) (xs ys : List Bool) → first_fault (suc n) (xs ++ ys) ≡ cond (eqb (first_fault (suc n) xs) 0) (first_fault (after (suc n) xs) ys) (first_fault (suc n) xs)
+first_of_lem n [] ys = refl
+first_of_lem n (true ∷ xs) ys = rw (ne_eqb (suc n) 0 (λ e. absurd (omega arith)))
+first_of_lem n (false ∷ xs) ys = first_of_lem (suc n) xs ys
 
 -- No fault is present.
-abbrev pub NoneOf : List Row → Type 0
+abbrev pub NoneOf : List Bool → Type 0
 NoneOf [] = Unit {0}
-NoneOf (x ∷ xs) = (x.present ≡ false) × NoneOf xs
+NoneOf (x ∷ xs) = (x ≡ false) × NoneOf xs
 
-absent_then : (b : Bool) (n rest : ℕ) → eqb n 0 ≡ false → cond b n rest ≡ 0 → (b ≡ false) × (rest ≡ 0)
-absent_then true n rest e z = absurd (subst T (sym (eq-eqb n 0 z) ∙ e) tt)
-absent_then false n rest e z = (refl, z)
-
-pub none_of : (xs : List Row) → T (numbered xs) → first_of xs ≡ 0 → NoneOf xs
-none_of [] t z = tt
-none_of (x ∷ xs) t z = let a = absent_then x.present x.number (first_of xs) (head_numbered x xs t) z in (a.0, none_of xs (rest_numbered x xs t) a.1)
+pub none_of : (n : ℕ) (xs : List Bool) → first_fault (suc n) xs ≡ 0 → NoneOf xs
+none_of n [] e = tt
+none_of n (true ∷ xs) e = absurd (omega arith)
+none_of n (false ∷ xs) e = (refl, none_of (suc n) xs e)
 
 -- None of two lists is none of the first.
-pub none_first : (xs ys : List Row) → NoneOf (xs ++ ys) → NoneOf xs
+pub none_first : (xs ys : List Bool) → NoneOf (xs ++ ys) → NoneOf xs
 none_first [] ys none = tt
 none_first (x ∷ xs) ys none = (none.0, none_first xs ys none.1)

@@ -1,28 +1,23 @@
 -- What the record holds of an event's condition, and what the history hears of it.
 -- Assumes nothing.
-use mathlib.Core.Path.{◌≡◌, refl, sym, subst⁻¹, ap}
+use mathlib.Core.Path.{◌≡◌, refl, sym, subst, subst⁻¹}
 use mathlib.Core.Bool.{Bool, true, false, not, ◌&&◌, ◌||◌, cond, beq, and-true, and-false, not-and_self, or-true}
 use mathlib.Core.List.{List}
 use Prim.Native.Nat.{ℕ, ◌<◌}
 use native.Mathlib.Omega.{arith}
 use lib.Dec.{T, eqb}
 use borrow.Author.Tests.{eqb-true, ne_eqb}
-use lib.ListN.{length}
-use Rattle.event.specs.Call.{Call}
-use Rattle.protocol.specs.Input.{input_by, input_of}
-use Rattle.protocol.specs.Kind.{kind_of, named}
 use Rattle.record.specs.Limits.{Limits}
-use Rattle.record.specs.Timer.{Timer, HP, HV, DAT, Ra, ACK}
 use Rattle.record.specs.Tags.{tag_of}
 use Rattle.record.specs.WellFormed.{flag_fits}
 use Rattle.protocol.specs.Condition.{Condition, live, good_hello, good_token, expected_bit, next_send_bit, nothing, condition_of, is_live, meets}
 use Rattle.protocol.specs.History.{History, Heard, hear, counts, notes_after, runs}
 use Rattle.protocol.specs.Notes.{Notes}
-use Rattle.protocol.specs.Arguments.{is_good_token, both_suites}
 use Rattle.record.specs.declared.Connection.{Connection}
+use Rattle.event.specs.declared.Input.{Input}
 use Rattle.protocol.proofs.Follows.{Follows, stands}
-use Rattle.protocol.proofs.Reading.{each, read_at, same_name}
 use Rattle.protocol.proofs.Standings.{only, related, ruled, alone}
+use Rattle.table.proofs.Arms.{at_keys, up, is_up}
 
 -- What the history hears of a condition.
 abbrev pub heard_at : Heard → Condition → Bool
@@ -34,13 +29,14 @@ heard_at heard next_send_bit = heard.next_send_bit
 heard_at heard nothing = true
 
 -- The rules ask of an event its own condition and nothing else.
-pub asks_once : (limits : Limits) (history : History) (call : Call) (size : ℕ) (n : Notes) → call.event.code < 24
-    → let k = call.event.code in ruled n k (hear history call) ≡ ruled n k (only (heard_at (hear history call) (condition_of k (input_of limits call size).timer)))
-unfolding counts notes_after input_by kind_of
-asks_once limits history call size n =
-    each (λ k. ruled n k (hear history call) ≡ ruled n k (only (heard_at (hear history call) (condition_of k (read_at limits call size k).timer))))
-    (refl, (refl, (refl, (refl, (refl, (refl, (refl, (refl, (refl, (refl, (refl, (refl, (refl, (refl, (refl, (refl, (refl, (refl, (refl, (refl, (ap (λ (x : Timer). ruled n 20 (only ((hear history call).live x))) (same_name call.event.timer), (refl, (refl, refl)))))))))))))))))))))))
-    call.event.code
+pub asks_once : (history : History) (input : Input) (n : Notes) (k : ℕ) → k < 24
+    → ruled n k (hear history input) ≡ ruled n k (only (heard_at (hear history input) (condition_of k input.timer)))
+unfolding counts notes_after
+asks_once history input n k h =
+    at_keys (λ k. ruled n k (hear history input) ≡ ruled n k (only (heard_at (hear history input) (condition_of k input.timer))))
+    (up 0 24)
+    (refl, (refl, (refl, (refl, (refl, (refl, (refl, (refl, (refl, (refl, (refl, (refl, (refl, (refl, (refl, (refl, (refl, (refl, (refl, (refl, (refl, (refl, (refl, refl)))))))))))))))))))))))
+    k (is_up 0 24 k (omega arith) (omega arith))
 
 -- A test that is the same on both sides.
 beq_refl : (b : Bool) → T (beq b b)
@@ -74,27 +70,13 @@ none_at_9 s true true e f t = absurd (subst⁻¹ T (rw (eqb-true s 9 e) at f) tt
 none_at_9 s false true e f t = absurd t
 
 -- R: the record follows the history.
-module _ (limits : Limits) (size : ℕ) (history : History) (connection : Connection) (cache : List ℕ) (R : Follows limits size history connection cache) (call : Call) where
-  by_live : (x : Timer) → T (related history.notes (live x) (is_live call.event.tag (tag_of connection x)) ((hear history call).live x))
-  by_live x = live_law (runs history.notes x) call.event.tag (history.since x) (tag_of connection x) (R.tag x) (R.started x)
-
-  by_expected : T (related history.notes expected_bit (eqb call.event.bit connection.expected_bit) (hear history call).expected_bit)
-  by_expected = bit_law (eqb (stands history) 9) call.event.bit connection.expected_bit history.expected R.expected
-
-  by_next_send : T (related history.notes next_send_bit (eqb connection.awaiting_ack 1 && eqb call.event.bit connection.next_send_bit) (hear history call).next_send_bit)
-  by_next_send =
-      waiting_law (eqb (stands history) 9) history.notes.waiting connection.awaiting_ack call.event.bit connection.next_send_bit history.next_send R.flag R.next_send
+module _ (limits : Limits) (size : ℕ) (history : History) (connection : Connection) (cache : List ℕ) (R : Follows limits size history connection cache) (input : Input) where
+  pub hearing : (condition : Condition) → T (related history.notes condition (meets connection input condition) (heard_at (hear history input) condition))
+  hearing (live x) = live_law (runs history.notes x) input.tag (history.since x) (tag_of connection x) (R.tag x) (R.started x)
+  hearing good_hello = beq_refl (input.good && input.suites.found)
+  hearing good_token = beq_refl input.good
+  hearing expected_bit = bit_law (eqb (stands history) 9) input.bit connection.expected_bit history.expected R.expected
+  hearing next_send_bit =
+      waiting_law (eqb (stands history) 9) history.notes.waiting connection.awaiting_ack input.bit connection.next_send_bit history.next_send R.flag R.next_send
       (none_at_9 (stands history) history.notes.waiting (eqb (stands history) 9) refl (alone history.notes R.notes_fit).flag)
-
-  -- What the record holds of the condition of the event that the step reads, and what the history hears of it in the call.
-  pub hearing : call.event.code < 24
-      → let input = input_of limits call (length cache) in
-      let condition = condition_of call.event.code input.timer in
-      T (related history.notes condition (meets connection input condition) (heard_at (hear history call) condition))
-  unfolding input_by kind_of
-  hearing =
-      each (λ k. let input = read_at limits call (length cache) k in
-      let condition = condition_of k input.timer in
-      T (related history.notes condition (meets connection input condition) (heard_at (hear history call) condition)))
-      (tt, (tt, (tt, (tt, (by_live HV, (by_live HV, (by_live HV, (by_live HP, (by_live HP, (by_live HP, (tt, (beq_refl (is_good_token call.event && both_suites call), (tt, (beq_refl (is_good_token call.event), (tt, (tt, (tt, (tt, (by_expected, (by_next_send, (by_live (named call.event.timer), (by_live DAT, (by_live Ra, by_live ACK)))))))))))))))))))))))
-      call.event.code
+  hearing nothing = tt

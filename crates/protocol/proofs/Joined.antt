@@ -32,9 +32,8 @@ part_of_result limits connection call before after outcome e f =
 -- So what a host got for a call is its result.
 pub is_result : (limits : Limits) (left : Left) (call : Call) (got : Result) → Promised limits left call got → got ≡ result_of limits left.connection call left.cache
 is_result limits left call got p =
-    let s = p.stepped in
-    let q = p.part_taken ∙ part_of_result limits left.connection call left.cache got.cache got.outcome s.outcome_is s.cache_is in
-    λ i. record { outcome = s.outcome_is i; cache = s.cache_is i; part = q i }
+    let q = p.part ∙ part_of_result limits left.connection call left.cache got.cache got.outcome p.outcome p.cache_left in
+    λ i. record { outcome = p.outcome i; cache = p.cache_left i; part = q i }
 
 pub are_results : (limits : Limits) (left : Left) (calls : List Call) (got : List Result) → AllPromised limits left calls got → got ≡ results_of limits left.connection left.cache calls
 unfolding Along results_of

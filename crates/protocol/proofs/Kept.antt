@@ -8,8 +8,7 @@ use native.Mathlib.Omega.{arith}
 use lib.Dec.{T, eqb, eqb→eq}
 use lib.ListN.{length, take, length-append, length-drop}
 use lib.Seq.{take-append_seam}
-use Rattle.event.specs.Call.{Call}
-use Rattle.protocol.specs.Input.{carries_payload, input_of}
+use Rattle.event.specs.Call.{Call, carries_payload, input_of}
 use Rattle.record.specs.Limits.{Limits}
 use Rattle.record.specs.Tags.{tag_of}
 use Rattle.record.specs.Timer.{Timer}
@@ -103,7 +102,7 @@ module _ (limits : Limits) (size : ℕ) (history : History) (connection : Connec
   input = input_of limits call (length cache)
 
   abbrev heard : Heard
-  heard = hear history call
+  heard = hear history input
 
   -- The notes after the event, if it counts.
   abbrev m : Notes
@@ -114,9 +113,9 @@ module _ (limits : Limits) (size : ℕ) (history : History) (connection : Connec
   unfolding holds
   agreed =
       let condition = condition_of k input.timer in
-      subst⁻¹ (Agree n k (meets connection input condition)) (asks_once limits history call (length cache) n faultless.code)
+      subst⁻¹ (Agree n k (meets connection input condition)) (asks_once history input n k faultless.code)
       (agree n k input.timer (meets connection input condition) (heard_at heard condition) R.notes_fit faultless.code faultless.timer
-      (hearing limits size history connection cache R call faultless.code))
+      (hearing limits size history connection cache R input condition))
 
   -- The table leads where the notes lead.
   pub leads : next_state connection k input ≡ cond (counts n k heard) (state_of m) ignored
@@ -180,7 +179,7 @@ module _ (limits : Limits) (size : ℕ) (history : History) (connection : Connec
         ∙ length_law (eqb (state_of m) 9) (eqb k 2) (eqb k 19) n.waiting input.payload_len connection.cached_len call.payload history.block R.length_is given
         ∙ (λ i. cond (G.waits i) (length (sym block_is i)) 0)
 
-    pub kept : Follows limits size (counted history call) c' cache'
+    pub kept : Follows limits size (counted history k input call.payload) c' cache'
     unfolding counted
     kept = record {
       notes_fit = G.consistent_after;

@@ -14,8 +14,6 @@ pub mod Joined
 mod Kept
 pub mod Live
 pub mod Moved
-pub mod NoMargin
-pub mod Reading
 mod Standings
 pub mod Stepped
 mod Tasks

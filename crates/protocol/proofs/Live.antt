@@ -1,29 +1,23 @@
 -- Nothing live is ignored: where a timer runs, the table takes whatever comes from it and from its driver.
 -- Assumes nothing.
-use mathlib.Core.Path.{◌≡◌, refl, sym, subst, subst⁻¹, ap, ◌∙◌}
+use mathlib.Core.Path.{◌≡◌, refl, sym, subst, ap, ◌∙◌}
 use mathlib.Core.Bool.{Bool, true, false, not, ◌||◌, not-and_self}
 use mathlib.Core.List.{List}
-use mathlib.Core.Option.{Option, none, some}
 use Prim.Native.Nat.{ℕ}
 use lib.Dec.{T, eqb}
 use lib.ListN.{length}
 use borrow.Author.Tests.{eqb-true, eq-eqb}
-use Rattle.event.specs.Call.{Call}
-use Rattle.protocol.specs.Input.{input_by, input_of}
-use Rattle.protocol.specs.Kind.{kind_of}
+use Rattle.event.specs.Call.{Call, input_by, input_of}
 use Rattle.event.specs.declared.Input.{Input}
 use Rattle.record.specs.Limits.{Limits}
 use Rattle.record.specs.Tags.{tag_of, runs_in}
-use Rattle.record.specs.Timer.{Timer}
 use Rattle.record.specs.declared.Connection.{Connection}
 use Rattle.table.specs.Table as table
 use Rattle.protocol.specs.Condition.{Condition, live, good_hello, good_token, expected_bit, next_send_bit, nothing, condition_of, is_live, meets, holds, next_by, next_state}
-use Rattle.protocol.specs.Live.{is_live_from, is_live_event, NothingLiveIgnored}
-use Rattle.protocol.specs.Arguments.{comes_from}
+use Rattle.protocol.specs.Live.{is_live_by, is_live_event, NothingLiveIgnored}
 use Rattle.protocol.specs.Step.{Result}
 use Rattle.protocol.specs.declared.Answer.{Answer}
 use Rattle.protocol.specs.declared.Answer.TheVariants.{Handled, Ignored, Refused}
-use Rattle.protocol.proofs.Reading.{sourced}
 use Rattle.protocol.proofs.Stepped.{Stepped, refused, ignored, handled, stepped, next, Unrefused, unrefused}
 use Rattle.record.proofs.WellFormed.{parts, off_is}
 use Rattle.table.proofs.Finite.{is_true, is_false, implied, below, below_at, cells, cells_at}
@@ -58,19 +52,27 @@ module _ (limits : Limits) (connection : Connection) (call : Call) (cache : List
   abbrev input : Input
   input = input_of limits call (length cache)
 
-  -- The table takes an event that is live for the driver or timer that it comes from.
-  taken : (source : Option Timer) → comes_from k call.event.timer ≡ source → T (is_live_from connection call.event.tag source) → eqb (next limits connection call cache) table.ignored ≡ false
-  unfolding next_state holds
-  taken none e m = absurd m
-  taken (some x) e m =
+  -- The state that follows if the event's condition holds.
+  abbrev then : ℕ
+  then = next_by connection.state connection.awaiting_ack k true
+
+  -- A live event's condition holds, and the table takes it.
+  taken_by : (condition : Condition) → T (is_live_by connection input.tag condition) → T (takes connection.state k connection.awaiting_ack condition)
+      → (meets connection input condition ≡ true) × T (not (eqb then table.ignored))
+  taken_by (live x) m t = (is_true _ m, implied (runs_in x connection.state) _ t (live_runs input.tag (tag_of connection x) (runs_in x connection.state) (off_is limits connection (parts limits connection U.well) x) m))
+  taken_by good_hello m t = absurd m
+  taken_by good_token m t = absurd m
+  taken_by expected_bit m t = absurd m
+  taken_by next_send_bit m t = absurd m
+  taken_by nothing m t = absurd m
+
+  live_taken : T (is_live_event connection call.event) → eqb (next limits connection call cache) table.ignored ≡ false
+  unfolding next_state holds input_by
+  live_taken m =
       let p = parts limits connection U.well in
-      let s = sourced limits call (length cache) U.arguments.code x e in
       let t = cells_at cell_takes all_take connection.state k connection.awaiting_ack true p.state U.arguments.code p.flag in
-      let takes-it = below_at 3 (λ name. takes connection.state k connection.awaiting_ack (condition_of k name)) t input.timer U.arguments.timer in
-      let runs = live_runs call.event.tag (tag_of connection x) (runs_in x connection.state) (off_is limits connection p x) m in
-      ap (λ (b : Bool). eqb (next_by connection.state connection.awaiting_ack k b) table.ignored)
-      (ap (meets connection input) s.0 ∙ is_true _ (subst⁻¹ (λ (tag : ℕ). T (is_live tag (tag_of connection x))) s.1 m))
-      ∙ is_false _ (implied (runs_in x connection.state) _ (subst (λ (c : Condition). T (takes connection.state k connection.awaiting_ack c)) s.0 takes-it) runs)
+      let q = taken_by (condition_of k input.timer) m (below_at 3 (λ name. takes connection.state k connection.awaiting_ack (condition_of k name)) t input.timer U.arguments.timer) in
+      ap (λ (b : Bool). eqb (next_by connection.state connection.awaiting_ack k b) table.ignored) q.0 ∙ is_false (eqb then table.ignored) q.1
 
 -- Whether an answer is that the call was ignored.
 abbrev is_ignored : Answer → Bool
@@ -86,5 +88,5 @@ nothing_live_ignored limits connection call cache t a = by_step (stepped limits 
   where
     by_step : Stepped limits connection call cache → ⊥
     by_step (refused n e) = not_ignored _ refl (sym (ap (λ (r : Result). r.outcome.answer) e) ∙ a)
-    by_step (ignored n i e) = absurd (subst T (sym (eq-eqb _ _ i) ∙ taken limits connection call cache (unrefused limits connection call cache n) _ refl t) tt)
+    by_step (ignored n i e) = absurd (subst T (sym (eq-eqb _ _ i) ∙ live_taken limits connection call cache (unrefused limits connection call cache n) t) tt)
     by_step (handled n i e) = not_ignored _ refl (sym (ap (λ (r : Result). r.outcome.answer) e) ∙ a)

@@ -71,21 +71,15 @@ module _ (c : Connection) (code : ℕ) (input : Input) (to : ℕ) where
 
   pub record Ordered (locks : Bool) (a : Actions) : Type 0 where
     pub message : a.message ≡ message_by locks code
-    pub seconds : a.dat_seconds ≡ cond locks 0 (cond (eqb (orders_of c code input to DAT) order.start) input.seconds 0)
-    pub verifier_suite : a.verifier_suite ≡ cond locks 0 (cond (eqb code 11) input.suites.verifier 0)
-    pub prover_suite : a.prover_suite ≡ cond locks 0 (cond (eqb code 11) input.suites.prover 0)
     pub bit : a.bit ≡ cond locks 0 (bit_of code c.next_send_bit input.bit)
     pub deliver : a.deliver ≡ cond locks false (eqb code 18)
     pub slice : a.payload_slice ≡ cond locks order.none (source_of code)
     pub length : a.payload_len ≡ cond locks 0 (length_of code c.cached_len input.payload_len)
 
-  abbrev orders : Timer → ℕ
-  orders = orders_of c code input to
-
-  ordered_by : (locks : Bool) → Ordered locks (cond locks (locking_actions orders c code) (moving_actions orders c code input))
-  ordered_by true = record { message = refl; seconds = refl; verifier_suite = refl; prover_suite = refl; bit = refl; deliver = refl; slice = refl; length = refl }
-  ordered_by false = record { message = refl; seconds = refl; verifier_suite = refl; prover_suite = refl; bit = refl; deliver = refl; slice = refl; length = refl }
+  ordered_by : (locks : Bool) (orders : Timer → ℕ) → Ordered locks (cond locks (locking_actions orders c code) (moving_actions orders c code input))
+  ordered_by true orders = record { message = refl; bit = refl; deliver = refl; slice = refl; length = refl }
+  ordered_by false orders = record { message = refl; bit = refl; deliver = refl; slice = refl; length = refl }
 
   pub ordered : Ordered (eqb to 9) (actions_of c code input to)
   unfolding actions_of
-  ordered = ordered_by (eqb to 9)
+  ordered = ordered_by (eqb to 9) (orders_of c code input to)

@@ -7,12 +7,11 @@ use mathlib.Core.List.{[], ◌∷◌}
 use Prim.Native.Nat.{ℕ, ◌<◌, ◌≤◌}
 use lib.Dec.{T, eqb, eqb→eq, leb, leb→le}
 use Rattle.record.specs.Tags.{runs_in}
-use Rattle.record.specs.Timer.{Timer, H, DAT}
+use Rattle.record.specs.Timer.{Timer, H}
 use Rattle.record.specs.WellFormed.{flag_fits}
 use Rattle.table.specs.Sets.{is_in}
 use Rattle.table.specs.Table.{cell, ignored}
 use Rattle.protocol.specs.Advance.{flag_after}
-use Rattle.protocol.specs.Agreement.{opens_between, token_comes_between}
 use Rattle.protocol.specs.Condition.{Condition, live, good_hello, good_token, expected_bit, next_send_bit, nothing, condition_of, next_by}
 use Rattle.protocol.specs.History.{Heard, accepts, acknowledged, receives, counts, notes_after, runs, restarts, state_of}
 use Rattle.protocol.specs.Notes.{Opening, fresh, hello_sent, opened, locked, DriverRun, off, running, good, Notes, is_running, is_good, attested}
@@ -126,18 +125,12 @@ moves n k r m =
     && timers (λ x. tag_goes (runs n x) (runs m x) (starts x k (state_of n) (state_of m)) (ends x (state_of m)) (restarts x k))
     && (not (is_in (2 ∷ 23 ∷ []) k || eqb k 18) || (attested n && attested m))
     && (not (eqb k 23) || n.waiting)
-    && beq (opens_between n m) (eqb k 11 && not (eqb (state_of m) 9))
-    && beq (starts DAT k (state_of n) (state_of m)) (token_comes_between n m)
-
--- A token becomes current by 11 or 13, if its condition holds; then nothing locks.
-abbrev brings : (code : ℕ) (held : Bool) → Notes → Bool
-brings k b m = is_in (11 ∷ 13 ∷ []) k && (b && not (eqb (state_of m) 9))
 
 -- The table leads where the notes lead, or ignores what doesn't count.
 abbrev agrees : Notes → (code : ℕ) (held : Bool) → Ruled → Bool
 agrees n k b r =
     eqb (next_by (state_of n) (flag_of n) k b) (cond r.counts (state_of r.after) ignored)
-    && (not r.counts || (moves n k r r.after && (not (token_comes_between n r.after) || brings k b r.after)))
+    && (not r.counts || moves n k r r.after)
 
 abbrev agrees_if : Notes → (code name : ℕ) (held heard : Bool) → Bool
 agrees_if n k name b h = not (related n (condition_of k name) b h) || agrees n k b (ruled n k (only h))
@@ -183,8 +176,6 @@ pub record Moves (n : Notes) (k : ℕ) (r : Ruled) (m : Notes) : Type 0 where
   pub tags : (x : Timer) → T (tag_goes (runs n x) (runs m x) (starts x k (state_of n) (state_of m)) (ends x (state_of m)) (restarts x k))
   pub guarded : T (not (is_in (2 ∷ 23 ∷ []) k || eqb k 18) || (attested n && attested m))
   pub repeats : T (not (eqb k 23) || n.waiting)
-  pub opens_is : opens_between n m ≡ (eqb k 11 && not (eqb (state_of m) 9))
-  pub dat_starts : starts DAT k (state_of n) (state_of m) ≡ token_comes_between n m
 
 moves_by : (n : Notes) (k : ℕ) (r : Ruled) (m : Notes) → T (moves n k r m) → Moves n k r m
 moves_by n k r m t = record {
@@ -200,27 +191,18 @@ moves_by n k r m t = record {
   tags = timers_at (λ x. tag_goes (runs n x) (runs m x) (starts x k (state_of n) (state_of m)) (ends x (state_of m)) (restarts x k)) (search (and_left, and_right) depth 16);
   guarded = search (and_left, and_right) depth 16;
   repeats = search (and_left, and_right) depth 16;
-  opens_is = same _ _ (search (and_left, and_right) depth 16);
-  dat_starts = same _ _ (search (and_left, and_right) depth 16);
 }
 
 -- Of any event whose condition the record holds and the history hears alike.
 pub record Agree (n : Notes) (k : ℕ) (b : Bool) (r : Ruled) : Type 0 where
   pub next : next_by (state_of n) (flag_of n) k b ≡ cond r.counts (state_of r.after) ignored
   pub move : T r.counts → Moves n k r r.after
-  pub token_comes : T r.counts → T (token_comes_between n r.after) → T (is_in (11 ∷ 13 ∷ []) k) × (T b × (eqb (state_of r.after) 9 ≡ false))
 
 agree_by : (n : Notes) (k : ℕ) (b : Bool) (r : Ruled) → T (agrees n k b r) → Agree n k b r
-agree_by n k b r t =
-    let u = implied r.counts _ (and_right (eqb (next_by (state_of n) (flag_of n) k b) _) _ t) in
-    record {
-      next = eqb→eq _ _ (and_left (eqb (next_by (state_of n) (flag_of n) k b) _) _ t);
-      move = λ c. moves_by n k r r.after (and_left (moves n k r r.after) _ (u c));
-      token_comes = λ c d.
-          let w = implied (token_comes_between n r.after) _ (and_right (moves n k r r.after) _ (u c)) d in
-          let v = and_right (is_in (11 ∷ 13 ∷ []) k) _ w in
-          (and_left (is_in (11 ∷ 13 ∷ []) k) _ w, (and_left b _ v, is_false _ (and_right b _ v)));
-    }
+agree_by n k b r t = record {
+  next = eqb→eq _ _ (and_left (eqb (next_by (state_of n) (flag_of n) k b) _) _ t);
+  move = λ c. moves_by n k r r.after (implied r.counts _ (and_right (eqb (next_by (state_of n) (flag_of n) k b) _) _ t) c);
+}
 
 pub agree : (n : Notes) (k name : ℕ) (b h : Bool) → T (consistent n) → k < 24 → name < 3 → T (related n (condition_of k name) b h) → Agree n k b (ruled n k (only h))
 agree n k name b h c hk hn r =

@@ -8,14 +8,14 @@ use native.Mathlib.Omega.{arith}
 use lib.Dec.{T, eqb}
 use lib.ListN.{length}
 use borrow.Author.Tests.{eqb-true, le-ltb, ltb-false, not-false}
-use Rattle.event.specs.Call.{Call}
-use Rattle.protocol.specs.Input.{carries_payload, input_by, input_of}
+use Rattle.event.specs.Call.{Call, carries_payload, input_by, input_of}
 use Rattle.record.specs.Limits.{Limits}
 use Rattle.record.specs.WellFormed.{well_formed}
 use Rattle.table.specs.Table as table
 use Rattle.protocol.specs.Block.{part_of}
 use Rattle.protocol.specs.Condition.{next_state}
-use Rattle.protocol.specs.Refusal.{early_faults, ill_formed, exhausted, late_faults, faults, refusal}
+use Rattle.protocol.specs.Faults.{early_faults, late_faults}
+use Rattle.protocol.specs.Refusal.{ill_formed, exhausted, faults, refusal}
 use Rattle.protocol.specs.Step.{unchanged, handled_to, decided, step_of, refusal_of, cache_after, Result, result_with, result_of}
 use Rattle.protocol.specs.declared.Answer.{Answer}
 use Rattle.protocol.specs.declared.Answer.TheVariants.{Handled, Ignored, Refused}
@@ -109,7 +109,7 @@ unfolding refusal
 unrefused limits connection call cache e =
     let code = call.event.code in
     let read = input_of limits call (length cache) in
-    let n = none_of (faults limits connection code read) tt e in
+    let n = none_of 0 (faults limits connection code read) e in
     let last = n.1.1.1.1.1.1 in
     record {
       arguments = faultless limits call (length cache) (none_first (early_faults code read) (ill_formed limits connection ∷ exhausted limits connection code read ∷ late_faults read) n);

@@ -1,9 +1,8 @@
 -- The finite part of the audit: at every cell the order to each task fits what becomes of its tag. One test, which antt computes.
 -- Assumes nothing.
-use mathlib.Core.Path.{◌≡◌, refl, ap}
+use mathlib.Core.Path.{◌≡◌, refl}
 use mathlib.Core.Bool.{Bool, true, false, not, ◌&&◌, ◌||◌, cond}
 use mathlib.Core.List.{[], ◌∷◌}
-use mathlib.Core.Option.{some}
 use Prim.Native.Nat.{ℕ, ◌<◌, ◌≤◌}
 use lib.Dec.{T, eqb, eqb→eq}
 use Rattle.event.specs.declared.Input.{Input}
@@ -16,7 +15,6 @@ use Rattle.protocol.specs.Actions.{no_actions, stopped, prover_order, verifier_o
 use Rattle.protocol.specs.Audit.{Task, timer, prover, verifier, timer_of, order_to, ending, may_get, reports_end}
 use Rattle.protocol.specs.Condition.{live, condition_of, next_by}
 use Rattle.protocol.specs.Orders as order
-use Rattle.protocol.specs.Arguments.{comes_from}
 use Rattle.protocol.specs.Timers.{starts, ends, reports, timer_order}
 use Rattle.record.proofs.EveryTimer.{timers, timers_at}
 use Rattle.table.proofs.Arms.{at_keys, one_of}
@@ -134,28 +132,13 @@ fit s k flag name held task hs hk hf hn e =
       gets = and_right (ledger_goes s k to name task) _ u;
     }
 
--- An event that reports the end of a task comes from the task's timer or driver.
-pub comes_from : (task : Task) (k name : ℕ) → T (reports_end task k name) → comes_from k name ≡ some (timer_of task)
-comes_from (timer H) k name t = rw (eqb→eq k 20 (and_left (eqb k 20) _ t), eqb→eq name 0 (and_right (eqb k 20) _ t))
-comes_from (timer HP) k name t = rw (eqb→eq k 20 (and_left (eqb k 20) _ t), eqb→eq name 1 (and_right (eqb k 20) _ t))
-comes_from (timer HV) k name t = rw (eqb→eq k 20 (and_left (eqb k 20) _ t), eqb→eq name 2 (and_right (eqb k 20) _ t))
-comes_from (timer DAT) k name t = rw (eqb→eq k 21 t)
-comes_from (timer Ra) k name t = rw (eqb→eq k 22 t)
-comes_from (timer ACK) k name t = rw (eqb→eq k 23 t)
-comes_from prover k name t = at_keys (λ j. comes_from j name ≡ some HP) (7 ∷ 8 ∷ []) (refl, refl) k (one_of (7 ∷ 8 ∷ []) k t)
-comes_from verifier k name t = at_keys (λ j. comes_from j name ≡ some HV) (4 ∷ 5 ∷ []) (refl, refl) k (one_of (4 ∷ 5 ∷ []) k t)
-
--- Of the name only event 20 tells anything.
-only_then : (a b c : Bool) → (T a → b ≡ c) → (a && b) ≡ (a && c)
-only_then true b c h = h tt
-only_then false b c h = refl
-
-pub same_end : (task : Task) (k a b : ℕ) → (T (eqb k 20) → a ≡ b) → reports_end task k a ≡ reports_end task k b
-same_end (timer H) k a b h = only_then (eqb k 20) (eqb a 0) (eqb b 0) (λ t. ap (λ (n : ℕ). eqb n 0) (h t))
-same_end (timer HP) k a b h = only_then (eqb k 20) (eqb a 1) (eqb b 1) (λ t. ap (λ (n : ℕ). eqb n 1) (h t))
-same_end (timer HV) k a b h = only_then (eqb k 20) (eqb a 2) (eqb b 2) (λ t. ap (λ (n : ℕ). eqb n 2) (h t))
-same_end (timer DAT) k a b h = refl
-same_end (timer Ra) k a b h = refl
-same_end (timer ACK) k a b h = refl
-same_end prover k a b h = refl
-same_end verifier k a b h = refl
+-- The condition of an event that reports the end of a task is that it is live for the task.
+pub asks : (task : Task) (k name : ℕ) → T (reports_end task k name) → condition_of k name ≡ live (timer_of task)
+asks (timer H) k name t = rw (eqb→eq k 20 (and_left (eqb k 20) _ t), eqb→eq name 0 (and_right (eqb k 20) _ t))
+asks (timer HP) k name t = rw (eqb→eq k 20 (and_left (eqb k 20) _ t), eqb→eq name 1 (and_right (eqb k 20) _ t))
+asks (timer HV) k name t = rw (eqb→eq k 20 (and_left (eqb k 20) _ t), eqb→eq name 2 (and_right (eqb k 20) _ t))
+asks (timer DAT) k name t = rw (eqb→eq k 21 t)
+asks (timer Ra) k name t = rw (eqb→eq k 22 t)
+asks (timer ACK) k name t = rw (eqb→eq k 23 t)
+asks prover k name t = at_keys (λ j. condition_of j name ≡ live HP) (7 ∷ 8 ∷ []) (refl, refl) k (one_of (7 ∷ 8 ∷ []) k t)
+asks verifier k name t = at_keys (λ j. condition_of j name ≡ live HV) (4 ∷ 5 ∷ []) (refl, refl) k (one_of (4 ∷ 5 ∷ []) k t)

@@ -2,7 +2,7 @@
 use Rattle.std.specs.Prelude.{ℕ, Bool, false, not, ◌&&◌, cond, [], ◌∷◌, eqb}
 use Rattle.protocol.specs.Orders as order
 use Rattle.table.specs.Sets.{is_in}
-use Rattle.protocol.specs.Input.{carries_payload}
+use Rattle.event.specs.Call.{carries_payload}
 use Rattle.record.specs.Tags.{tag_of}
 use Rattle.record.specs.Timer.{Timer, H, HP, HV, DAT, Ra, ACK}
 use Rattle.protocol.specs.Timers.{starts, ends, reports, starts_prover, starts_verifier, timer_order}

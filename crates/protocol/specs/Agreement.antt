@@ -1,16 +1,13 @@
 -- Document 01, demand 3 and "The five notes": after every call of any list, the step agrees with the history.
-use Rattle.std.specs.Prelude.{ℕ, ◌≡◌, Bool, true, false, not, ◌&&◌, ◌||◌, cond, List, [], ◌∷◌, T, eqb, pos, length}
+use Rattle.std.specs.Prelude.{ℕ, ◌≡◌, Bool, true, false, ◌&&◌, ◌||◌, cond, List, [], ◌∷◌, T, eqb, length}
 use Rattle.std.proofs.Math.Option.{Option, none, some}
 use Rattle.event.specs.Call.{Call}
 use Rattle.record.specs.Limits.{Limits}
-use Rattle.record.specs.Timer.{DAT}
 use Rattle.record.specs.WellFormed.{fresh}
 use Rattle.table.specs.Sets.{is_in}
-use Rattle.protocol.specs.Actions.{no_actions}
 use Rattle.protocol.specs.Along.{Along}
-use Rattle.protocol.specs.Arguments.{seconds_of, choice_of}
-use Rattle.protocol.specs.History.{History, first, answer_to, history_after, runs, state_of}
-use Rattle.protocol.specs.Notes.{Notes, is_open, attested}
+use Rattle.protocol.specs.History.{History, first, answer_to, history_after, state_of}
+use Rattle.protocol.specs.Notes.{attested}
 use Rattle.protocol.specs.Orders as order
 use Rattle.protocol.specs.Run.{results_of}
 use Rattle.protocol.specs.Step.{Result}
@@ -62,14 +59,6 @@ abbrev pub accepted_after : Option Block → Call → Result → Option Block
 accepted_after accepted call result =
     cond (handled_as (2 ∷ []) result.outcome.answer call) (some (block result.outcome.actions.bit call.payload)) accepted
 
--- Whether the connection opens between these notes.
-abbrev pub opens_between : (before after : Notes) → Bool
-opens_between before after = is_open after.opening && not (is_open before.opening)
-
--- Whether the token becomes current: at the opening, and at its return.
-abbrev pub token_comes_between : (before after : Notes) → Bool
-token_comes_between before after = runs after DAT && not (runs before DAT)
-
 -- A call and its result agree with the history: the one before the call and the one after it, and the block last accepted at or before it.
 pub record Agrees (answer : Answer) (before after : History) (accepted : Option Block) (call : Call) (result : Result) : Type 0 where
   -- The call was handled, ignored or refused just as the history has it, with that number.
@@ -84,13 +73,6 @@ pub record Agrees (answer : Answer) (before after : History) (accepted : Option 
   pub ack_ordered : ack_of result ≡ when (handled_as (18 ∷ []) answer call) call.event.bit
   -- Just a handled 18 delivers, with its payload as the part.
   pub delivered : delivered_of result ≡ when (handled_as (18 ∷ []) answer call) call.payload
-  -- The DAT timer's length is the seconds left of a token that becomes current, else 0.
-  pub dat_seconds : pos result.outcome.actions.dat_seconds ≡ cond (token_comes_between before.notes after.notes) (seconds_of call.event) (pos 0)
-  -- Both suites are the ones chosen from the call's lists where the connection opens, else 0.
-  pub verifier_suite : result.outcome.actions.verifier_suite ≡ cond (opens_between before.notes after.notes) (choice_of call).verifier.suite 0
-  pub prover_suite : result.outcome.actions.prover_suite ≡ cond (opens_between before.notes after.notes) (choice_of call).prover.suite 0
-  -- A call that is not handled orders nothing and has no part.
-  pub quiet : T (not (is_handled answer)) → (result.outcome.actions ≡ no_actions) × (result.part ≡ [])
   -- Data moves only while the token is current and both runs are good, before the call and after it.
   pub guarded : T (moves_data result) → T (attested before.notes) × T (attested after.notes)
   -- Every DATA carries the bytes and the bit of the block last accepted.

@@ -1,9 +1,10 @@
--- A timer audit, after the one that request #102 names; its rules are ours: what the orders have started, and neither ended nor seen reported,
--- is just what the record's tags have on.
--- The ledger is kept from the events, the answers and the actions alone. It reads no record and no state, and of an event its own fields.
+-- Request #102, the timer audit: what the orders have started, and neither ended nor seen reported, is just what the record's tags have on.
+-- The ledger is kept from the events, the answers and the actions alone. It reads no record and no state; with the step it shares what an
+-- event carries and which timer it reports.
 use Rattle.std.specs.Prelude.{ℕ, ◌+◌, ◌≡◌, Bool, true, false, not, ◌&&◌, ◌||◌, cond, List, [], ◌∷◌, T, eqb}
 use Rattle.std.proofs.Math.Option.{Option, none, some}
 use Rattle.event.specs.Call.{Call}
+use Rattle.event.specs.Kind.{kind_of, fields_of}
 use Rattle.record.specs.Limits.{Limits}
 use Rattle.record.specs.Tags.{tag_of}
 use Rattle.record.specs.Timer.{Timer, H, HP, HV, DAT, Ra, ACK}
@@ -14,6 +15,7 @@ use Rattle.protocol.specs.Agreement.{is_handled, when}
 use Rattle.protocol.specs.Orders as order
 use Rattle.protocol.specs.Run.{results_of}
 use Rattle.protocol.specs.Step.{Result}
+use Rattle.protocol.specs.Timers.{reports}
 use Rattle.protocol.specs.declared.Actions.{Actions}
 use Rattle.protocol.specs.declared.Answer.{Answer}
 use Rattle.protocol.specs.declared.Answer.TheVariants.{Handled, Ignored, Refused}
@@ -58,12 +60,7 @@ may_get task runs given = is_in (order.none ∷ order.start ∷ []) given || is_
 
 -- Whether an event says that it has ended by itself: a timeout of the timer, OK or FAILED of the driver.
 abbrev pub reports_end : Task → (code name : ℕ) → Bool
-reports_end (timer H) code name = eqb code 20 && eqb name 0
-reports_end (timer HP) code name = eqb code 20 && eqb name 1
-reports_end (timer HV) code name = eqb code 20 && eqb name 2
-reports_end (timer DAT) code name = eqb code 21
-reports_end (timer Ra) code name = eqb code 22
-reports_end (timer ACK) code name = eqb code 23
+reports_end (timer x) code name = reports x code name
 reports_end prover code name = is_in (7 ∷ 8 ∷ []) code
 reports_end verifier code name = is_in (4 ∷ 5 ∷ []) code
 
@@ -89,7 +86,8 @@ is_on_with tag (some own) = eqb tag own
 -- Whether a call reports the end of a task that runs, with its tag.
 abbrev pub reported : Ledger → Call → Task → Bool
 reported ledger call task =
-    reports_end task call.event.code call.event.timer && is_on_with call.event.tag (ledger.running task)
+    let carried = fields_of (kind_of call.event) in
+    reports_end task call.event.code carried.timer && is_on_with carried.tag (ledger.running task)
 
 -- Whether the machine has seen a call: it has, unless it refused it.
 abbrev pub is_seen : Answer → Bool

@@ -1,5 +1,5 @@
 -- Document 01, "The boot run and its neighbours": cases 1 to 12, as one statement over a list of them.
-use Rattle.std.specs.Prelude.{ℕ, ◌≡◌, List, [], ◌∷◌, ℤ, pos, negsuc, get_or, replicate}
+use Rattle.std.specs.Prelude.{ℕ, ◌≡◌, Bool, true, false, List, [], ◌∷◌, ℤ, pos, negsuc, get_or, replicate}
 use Rattle.token.specs.Answer.{left, time_left}
 use Rattle.event.specs.Call.{Call, call_of}
 use Rattle.record.specs.Limits.{limits}
@@ -12,16 +12,16 @@ use Rattle.protocol.specs.declared.Answer.TheVariants.{Handled, Ignored}
 use Rattle.event.specs.declared.Event.{Event}
 
 -- An event with these fields; the others are 0, the margin too, which document 01's cases don't have.
-abbrev pub event : (code tag bit verdict : ℕ) (expiry now : ℤ) → Event
+abbrev pub event : (code tag bit : ℕ) (verdict : Bool) (expiry now : ℤ) → Event
 event code tag bit verdict expiry now = record { code = code; tag = tag; timer = 0; bit = bit; verdict = verdict; margin = 0; expiry = expiry; now = now }
 
 -- A call without payload and lists.
 abbrev pub plain : (code tag bit : ℕ) → Call
-plain code tag bit = call_of (event code tag bit 0 (pos 0) (pos 0)) [] [] [] [] []
+plain code tag bit = call_of (event code tag bit false (pos 0) (pos 0)) [] [] [] [] []
 
 -- A hello with the boot run's lists, at time 1,000.
 abbrev pub hello : (expiry : ℤ) → Call
-hello expiry = call_of (event 11 0 0 1 expiry (pos 1000)) [] (7 ∷ 3 ∷ []) (3 ∷ 7 ∷ []) (3 ∷ []) (3 ∷ 7 ∷ [])
+hello expiry = call_of (event 11 0 0 true expiry (pos 1000)) [] (7 ∷ 3 ∷ []) (3 ∷ 7 ∷ []) (3 ∷ []) (3 ∷ 7 ∷ [])
 
 -- The boot run.
 abbrev pub boot : List Call
@@ -31,7 +31,7 @@ boot =
     ∷ plain 7 2 0
     ∷ plain 4 1 0
     ∷ plain 4 2 0
-    ∷ call_of (event 2 0 0 0 (pos 0) (pos 0)) (1 ∷ 2 ∷ 3 ∷ 4 ∷ 5 ∷ []) [] [] [] []
+    ∷ call_of (event 2 0 0 false (pos 0) (pos 0)) (1 ∷ 2 ∷ 3 ∷ 4 ∷ 5 ∷ []) [] [] [] []
     ∷ plain 17 0 0
     ∷ plain 7 2 0
     ∷ plain 19 0 0

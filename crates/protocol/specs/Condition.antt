@@ -1,6 +1,6 @@
 -- Document 01, "The record and its tags" and "The published table": the condition of each event, and the state that follows.
 use Rattle.std.specs.Prelude.{ℕ, Bool, true, not, ◌&&◌, List, [], ◌∷◌, eqb, get_or}
-use Rattle.protocol.specs.Kind.{named}
+use Rattle.event.specs.Kind.{named}
 use Rattle.table.specs.Table.{cell, settled}
 use Rattle.record.specs.Tags.{tag_of}
 use Rattle.record.specs.Timer.{Timer, HP, HV, DAT, Ra, ACK}

@@ -1,15 +1,17 @@
 -- Document 01, "The five notes": the history of a connection, kept from the calls' arguments and the cache's length alone.
--- It reads no record, no state and no table, and of a call its own fields (`Arguments`); only `state_of` and its parts, at the end, name states.
-use Rattle.std.specs.Prelude.{ℕ, ◌+◌, ◌-◌, Bool, true, false, not, ◌&&◌, ◌||◌, cond, List, [], ◌∷◌, ◌++◌, eqb}
-use Rattle.event.specs.Call.{Call}
+-- It reads no record, no state and no table; only `state_of` and its parts, at the end, name states. With the step it shares what the
+-- arguments mean: `input_of`, `named`, and the faults of the arguments with their order.
+use Rattle.std.specs.Prelude.{ℕ, ◌+◌, ◌-◌, Bool, true, false, not, ◌&&◌, ◌||◌, cond, List, [], ◌∷◌, eqb}
+use Rattle.event.specs.Call.{Call, input_of}
+use Rattle.event.specs.Kind.{named}
 use Rattle.record.specs.Limits.{Limits}
 use Rattle.record.specs.Timer.{Timer, H, HP, HV, DAT, Ra, ACK}
 use Rattle.table.specs.Sets.{is_in}
-use Rattle.protocol.specs.Arguments.{handshake_timer, is_good_token, both_suites, checked_first, checked_last}
-use Rattle.protocol.specs.Faults.{Row, row, first_of}
+use Rattle.protocol.specs.Faults.{early, late}
 use Rattle.protocol.specs.Notes.{Opening, fresh, hello_sent, opened, locked, off, running, good, Notes, is_fresh, is_hello_sent, is_open, is_running, is_good, is_missing, attested}
 use Rattle.protocol.specs.declared.Answer.{Answer}
 use Rattle.protocol.specs.declared.Answer.TheVariants.{Handled, Ignored, Refused}
+use Rattle.event.specs.declared.Input.{Input}
 
 -- The notes, and the numbers and bytes that go with them.
 pub record History : Type 0 where
@@ -174,21 +176,20 @@ abbrev pub since_after : (was is again : Bool) (count since : ℕ) → ℕ
 since_after was is again count since = cond (is && (not was || again)) count since
 
 -- What the history hears of a call. Live: the driver or timer runs, and the tag is the count at its latest start.
-abbrev pub hear : History → Call → Heard
-hear history call = record {
-  live = λ timer. runs history.notes timer && eqb call.event.tag (history.since timer);
-  named = handshake_timer call.event.timer;
-  good_hello = is_good_token call.event && both_suites call;
-  good_token = is_good_token call.event;
-  expected_bit = eqb call.event.bit history.expected;
-  next_send_bit = eqb call.event.bit history.next_send;
+abbrev pub hear : History → Input → Heard
+hear history input = record {
+  live = λ timer. runs history.notes timer && eqb input.tag (history.since timer);
+  named = named input.timer;
+  good_hello = input.good && input.suites.found;
+  good_token = input.good;
+  expected_bit = eqb input.bit history.expected;
+  next_send_bit = eqb input.bit history.next_send;
 }
 
 -- The history after an event that counts: 19 gives the other next-send bit, 18 the other expected bit, 2 the block's bytes.
-unfoldable pub counted : History → Call → History
-counted history call =
-    let code = call.event.code in
-    let heard = hear history call in
+unfoldable pub counted : History → (code : ℕ) → Input → (payload : List ℕ) → History
+counted history code input payload =
+    let heard = hear history input in
     let after = notes_after history.notes code heard in
     let count = history.count + 1 in
     record {
@@ -197,22 +198,22 @@ counted history call =
       since = λ timer. since_after (runs history.notes timer) (runs after timer) (restarts timer code) count (history.since timer);
       next_send = cond (acknowledged history.notes code heard) (1 - history.next_send) history.next_send;
       expected = cond (receives history.notes code heard) (1 - history.expected) history.expected;
-      block = cond (accepts history.notes code) call.payload history.block;
+      block = cond (accepts history.notes code) payload history.block;
     }
 
 -- Whether a call's event counts.
-abbrev pub counts_call : History → Call → Bool
-counts_call history call = counts history.notes call.event.code (hear history call)
+abbrev pub counts_call : Limits → (cache_length : ℕ) → History → Call → Bool
+counts_call limits cache_length history call =
+    counts history.notes call.event.code (hear history (input_of limits call cache_length))
 
--- The faults of a call: those of the arguments, and between them, the event counts and the count is the largest.
-abbrev pub faults_to : Limits → (cache_length : ℕ) → History → Call → List Row
-faults_to limits cache_length history call =
-    checked_first limits cache_length call.event.code call
-    ++ (row 8 (counts_call history call && eqb history.count limits.handled) ∷ checked_last call.event.code call)
-
--- The number of a call's refusal, 0 for none.
+-- The number of a call's refusal, 0 for none: the lowest of 1 to 6 if the arguments have one of these faults, else 8 if the event counts
+-- and the count is the largest, else 9 if they have its fault.
 unfoldable pub refusal_to : Limits → (cache_length : ℕ) → History → Call → ℕ
-refusal_to limits cache_length history call = first_of (faults_to limits cache_length history call)
+refusal_to limits cache_length history call =
+    let input = input_of limits call cache_length in
+    let lower = early call.event.code input in
+    let full = counts_call limits cache_length history call && eqb history.count limits.handled in
+    cond (eqb lower 0) (cond full 8 (late input)) lower
 
 -- Refused with that number, else handled if the event counts, ignored if not.
 abbrev pub answer_by : (refusal : ℕ) (takes : Bool) → Answer
@@ -221,7 +222,7 @@ answer_by refusal takes = cond (eqb refusal 0) (cond takes Handled Ignored) (Ref
 -- What the history says of a call.
 unfoldable pub answer_to : Limits → (cache_length : ℕ) → History → Call → Answer
 answer_to limits cache_length history call =
-    answer_by (refusal_to limits cache_length history call) (counts_call history call)
+    answer_by (refusal_to limits cache_length history call) (counts_call limits cache_length history call)
 
 -- A call that is refused or ignored isn't counted and moves no note.
 abbrev pub keep : Answer → (before after : History) → History
@@ -232,7 +233,8 @@ keep (Refused number) before after = before
 -- The history after a call.
 unfoldable pub history_after : Limits → (cache_length : ℕ) → History → Call → History
 history_after limits cache_length history call =
-    keep (answer_to limits cache_length history call) history (counted history call)
+    keep (answer_to limits cache_length history call) history
+    (counted history call.event.code (input_of limits call cache_length) call.payload)
 
 -- The state of an open connection: by the token, the runs of prover and verifier, and a waiting block.
 abbrev pub open_state : (current prover_runs verifier_runs waiting : Bool) → ℕ

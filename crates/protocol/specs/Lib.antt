@@ -1,7 +1,5 @@
 pub mod Orders
 pub mod Timers
-pub mod Kind
-pub mod Input
 pub mod Condition
 pub mod Faults
 pub mod Refusal
@@ -13,7 +11,6 @@ pub mod Run
 pub mod Along
 pub mod Promised
 pub mod Cases
-pub mod Arguments
 pub mod Notes
 pub mod History
 pub mod Agreement

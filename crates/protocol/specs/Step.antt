@@ -3,8 +3,7 @@ use Rattle.std.specs.Prelude.{ℕ, cond, List, eqb, length}
 use Rattle.table.specs.Table.{ignored}
 use Rattle.protocol.specs.Condition.{next_state}
 use Rattle.record.specs.Limits.{Limits}
-use Rattle.event.specs.Call.{Call}
-use Rattle.protocol.specs.Input.{input_of}
+use Rattle.event.specs.Call.{Call, input_of}
 use Rattle.protocol.specs.Refusal.{refusal}
 use Rattle.protocol.specs.Advance.{advance}
 use Rattle.protocol.specs.Actions.{no_actions, actions_of}

@@ -20,6 +20,3 @@ pub const NOT_WELL_FORMED: u32 = 7;
 pub const NUMBER_EXHAUSTED: u32 = 8;
 
 pub const MARGIN_TOO_LARGE: u32 = 9;
-
-// Ours: to the papers a verdict is yes or no, and a host hands over a number.
-pub const WRONG_VERDICT: u32 = 41;

@@ -1,12 +1,7 @@
 -- `arrival::code_of` meets its contract.
-use mathlib.Core.Path.{sym}
-use mathlib.Core.List.{[], ◌∷◌}
-use native.Mathlib.Omega.{arith}
-use lib.ListN.{get_or-eq_default}
-use Rattle.table.proofs.Arms.{rest}
-use Rattle.arrival.specs.Arrival.{codes, code_of}
 use Rattle.arrival.proofs.code_of.Statement.{statement}
 use Rattle.arrival.proofs.code_of.Tie as tie
+use Rattle.arrival.proofs.NoEvent.{no_event}
 
 pub code_of_spec : {M : Type 1} → statement M
 code_of_spec =
@@ -21,4 +16,4 @@ code_of_spec =
     (λ c. rw c.match.keys7)
     (λ c. rw c.match.keys8)
     (λ c. rw c.match.keys9)
-    (λ c. rest (λ k. 24) code_of ((9 ∷ []) ∷ (8 ∷ []) ∷ (7 ∷ []) ∷ (6 ∷ []) ∷ (5 ∷ []) ∷ (4 ∷ []) ∷ (3 ∷ []) ∷ (2 ∷ []) ∷ (1 ∷ []) ∷ []) 0 10 tt (λ k h. sym (get_or-eq_default codes 24 h)) _ c.match.rest (omega arith)))
+    (λ c. let r = c.match.rest in no_event _ r.0.0.0.0.0.0.0.0.1 r.0.0.0.0.0.0.0.1 r.0.0.0.0.0.0.1 r.0.0.0.0.0.1 r.0.0.0.0.1 r.0.0.0.1 r.0.0.1 r.0.1 r.1))

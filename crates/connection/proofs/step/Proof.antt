@@ -1,4 +1,6 @@
 -- `connection::step` meets its contract.
+use mathlib.Core.List.{List}
+use Prim.Native.Nat.{ℕ}
 use borrow.Author.Rules.{rules}
 use Rattle.event.specs.Call.{call_of}
 use Rattle.connection.proofs.ByValue.{by_value}

@@ -1,0 +1,2 @@
+pub mod NoMargin
+mod Opening
