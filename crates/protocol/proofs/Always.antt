@@ -11,9 +11,9 @@ use borrow.Author.Tests.{eq-eqb}
 use Rattle.event.specs.Call.{Call, input_of}
 use Rattle.record.specs.Limits.{Limits}
 use Rattle.record.specs.WellFormed.{fresh, well_formed}
-use Rattle.protocol.specs.Agreement.{Block}
+use Rattle.protocol.specs.Agreement.{Block, accepted_after}
 use Rattle.protocol.specs.Always.{Reached, ReachedWellFormed, NeverFalls, Unmoved, AllUnmoved, LockedStays}
-use Rattle.protocol.specs.History.{History, first}
+use Rattle.protocol.specs.History.{History, first, history_after}
 use Rattle.protocol.specs.Run.{Left, left_of, results_of}
 use Rattle.protocol.specs.Step.{result_of}
 use Rattle.protocol.specs.declared.Answer.{Answer}
@@ -53,8 +53,9 @@ left_well_formed : (limits : Limits) (size : ℕ) (history : History) (accepted 
 unfolding left_of results_of
 left_well_formed limits size history accepted connection cache R W [] = well_formed_lem limits size history connection cache R
 left_well_formed limits size history accepted connection cache R W (call ∷ calls) =
+    let result = result_of limits connection call cache in
     let c = one_call limits size history accepted connection cache R W call in
-    left_well_formed limits size _ _ _ _ c.follows c.waits calls
+    left_well_formed limits size (history_after limits size history call) (accepted_after accepted call result) result.outcome.connection result.cache c.follows c.waits calls
 
 pub reached_well_formed : (limits : Limits) → ReachedWellFormed limits
 reached_well_formed limits left r =

@@ -6,7 +6,7 @@ use Prim.Native.Nat.{ℕ}
 use lib.Dec.{eqb}
 use borrow.Author.Tests.{eqb-true}
 use Rattle.record.specs.Tags.{tag_of}
-use Rattle.record.specs.Timer.{Timer, H, HP, HV, DAT, Ra, ACK}
+use Rattle.record.specs.Timer.{Timer, H, HP, HV, DAT, RA, ACK}
 use Rattle.protocol.specs.Actions.{closing, message_of, bit_of, source_of, length_of, locking_actions, moving_actions, orders_of, actions_of}
 use Rattle.protocol.specs.Advance.{raised, flag_after, length_after, next_send_after, expected_after, locked, moved, tags_after, advance}
 use Rattle.protocol.specs.Orders as order
@@ -34,7 +34,7 @@ module _ (c : Connection) (code : ℕ) (input : Input) (to : ℕ) where
   no_tag HP e = rw e
   no_tag HV e = rw e
   no_tag DAT e = rw e
-  no_tag Ra e = rw e
+  no_tag RA e = rw e
   no_tag ACK e = rw e
 
   moved_tag : (timer : Timer) → tag_of (moved (tags_after c code to) (raised c) c code input to) timer ≡ tags_after c code to timer
@@ -42,7 +42,7 @@ module _ (c : Connection) (code : ℕ) (input : Input) (to : ℕ) where
   moved_tag HP = refl
   moved_tag HV = refl
   moved_tag DAT = refl
-  moved_tag Ra = refl
+  moved_tag RA = refl
   moved_tag ACK = refl
 
   advanced_by : (locks : Bool) → eqb to 9 ≡ locks → Advanced locks (cond locks (locked (raised c)) (moved (tags_after c code to) (raised c) c code input to))

@@ -7,7 +7,7 @@ use Prim.Native.Nat.{ℕ, ◌<◌, ◌≤◌}
 use lib.Dec.{T, eqb, eqb→eq}
 use Rattle.event.specs.declared.Input.{Input}
 use Rattle.record.specs.Tags.{tag_of, runs_in}
-use Rattle.record.specs.Timer.{H, HP, HV, DAT, Ra, ACK}
+use Rattle.record.specs.Timer.{H, HP, HV, DAT, RA, ACK}
 use Rattle.record.specs.declared.Connection.{Connection}
 use Rattle.table.specs.Sets.{is_in}
 use Rattle.table.specs.Table.{cell, ignored}
@@ -51,7 +51,7 @@ order_by c k input to true e (timer H) = refl
 order_by c k input to true e (timer HP) = refl
 order_by c k input to true e (timer HV) = refl
 order_by c k input to true e (timer DAT) = refl
-order_by c k input to true e (timer Ra) = refl
+order_by c k input to true e (timer RA) = refl
 order_by c k input to true e (timer ACK) = refl
 order_by c k input to true e prover = rw e
 order_by c k input to true e verifier = rw e
@@ -59,7 +59,7 @@ order_by c k input to false e (timer H) = refl
 order_by c k input to false e (timer HP) = refl
 order_by c k input to false e (timer HV) = refl
 order_by c k input to false e (timer DAT) = refl
-order_by c k input to false e (timer Ra) = refl
+order_by c k input to false e (timer RA) = refl
 order_by c k input to false e (timer ACK) = refl
 order_by c k input to false e prover = rw e
 order_by c k input to false e verifier = rw e
@@ -138,7 +138,7 @@ asks (timer H) k name t = rw (eqb→eq k 20 (and_left (eqb k 20) _ t), eqb→eq 
 asks (timer HP) k name t = rw (eqb→eq k 20 (and_left (eqb k 20) _ t), eqb→eq name 1 (and_right (eqb k 20) _ t))
 asks (timer HV) k name t = rw (eqb→eq k 20 (and_left (eqb k 20) _ t), eqb→eq name 2 (and_right (eqb k 20) _ t))
 asks (timer DAT) k name t = rw (eqb→eq k 21 t)
-asks (timer Ra) k name t = rw (eqb→eq k 22 t)
+asks (timer RA) k name t = rw (eqb→eq k 22 t)
 asks (timer ACK) k name t = rw (eqb→eq k 23 t)
 asks prover k name t = at_keys (λ j. condition_of j name ≡ live HP) (7 ∷ 8 ∷ []) (refl, refl) k (one_of (7 ∷ 8 ∷ []) k t)
 asks verifier k name t = at_keys (λ j. condition_of j name ≡ live HV) (4 ∷ 5 ∷ []) (refl, refl) k (one_of (4 ∷ 5 ∷ []) k t)

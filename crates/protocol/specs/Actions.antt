@@ -4,7 +4,7 @@ use Rattle.protocol.specs.Orders as order
 use Rattle.table.specs.Sets.{is_in}
 use Rattle.event.specs.Call.{carries_payload}
 use Rattle.record.specs.Tags.{tag_of}
-use Rattle.record.specs.Timer.{Timer, H, HP, HV, DAT, Ra, ACK}
+use Rattle.record.specs.Timer.{Timer, H, HP, HV, DAT, RA, ACK}
 use Rattle.protocol.specs.Timers.{starts, ends, reports, starts_prover, starts_verifier, timer_order}
 use Rattle.protocol.specs.declared.Actions.{Actions}
 use Rattle.record.specs.declared.Connection.{Connection}
@@ -49,7 +49,7 @@ locking_actions orders connection code = record {
   hp = orders HP;
   hv = orders HV;
   dat = orders DAT;
-  ra = orders Ra;
+  ra = orders RA;
   ack = orders ACK;
   dat_seconds = 0;
   bit = 0;
@@ -107,7 +107,7 @@ moving_actions orders connection code input = record {
   hp = orders HP;
   hv = orders HV;
   dat = orders DAT;
-  ra = orders Ra;
+  ra = orders RA;
   ack = orders ACK;
   dat_seconds = cond (eqb (orders DAT) order.start) input.seconds 0;
   bit = bit_of code connection.next_send_bit input.bit;

@@ -1,7 +1,7 @@
 -- Document 01, "The record and its tags" and "The published table": the record after a handled event.
 use Rattle.std.specs.Prelude.{ℕ, ◌+◌, cond, eqb}
 use Rattle.record.specs.Tags.{tag_of}
-use Rattle.record.specs.Timer.{Timer, H, HP, HV, DAT, Ra, ACK}
+use Rattle.record.specs.Timer.{Timer, H, HP, HV, DAT, RA, ACK}
 use Rattle.protocol.specs.Timers.{starts, ends, tag_after}
 use Rattle.record.specs.WellFormed.{cleared}
 use Rattle.record.specs.declared.Connection.{Connection}
@@ -48,7 +48,7 @@ moved tags number connection code input to = record {
   prover = tags HP;
   verifier = tags HV;
   dat = tags DAT;
-  ra = tags Ra;
+  ra = tags RA;
   ack = tags ACK;
 }
 

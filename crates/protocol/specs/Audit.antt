@@ -7,7 +7,7 @@ use Rattle.event.specs.Call.{Call}
 use Rattle.event.specs.Kind.{kind_of, fields_of}
 use Rattle.record.specs.Limits.{Limits}
 use Rattle.record.specs.Tags.{tag_of}
-use Rattle.record.specs.Timer.{Timer, H, HP, HV, DAT, Ra, ACK}
+use Rattle.record.specs.Timer.{Timer, H, HP, HV, DAT, RA, ACK}
 use Rattle.record.specs.WellFormed.{fresh}
 use Rattle.table.specs.Sets.{is_in}
 use Rattle.protocol.specs.Along.{Along}
@@ -37,7 +37,7 @@ order_to actions (timer H) = actions.h
 order_to actions (timer HP) = actions.hp
 order_to actions (timer HV) = actions.hv
 order_to actions (timer DAT) = actions.dat
-order_to actions (timer Ra) = actions.ra
+order_to actions (timer RA) = actions.ra
 order_to actions (timer ACK) = actions.ack
 order_to actions prover = actions.prover
 order_to actions verifier = actions.verifier

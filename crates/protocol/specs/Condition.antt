@@ -3,7 +3,7 @@ use Rattle.std.specs.Prelude.{ℕ, Bool, true, not, ◌&&◌, List, [], ◌∷�
 use Rattle.event.specs.Kind.{named}
 use Rattle.table.specs.Table.{cell, settled}
 use Rattle.record.specs.Tags.{tag_of}
-use Rattle.record.specs.Timer.{Timer, HP, HV, DAT, Ra, ACK}
+use Rattle.record.specs.Timer.{Timer, HP, HV, DAT, RA, ACK}
 use Rattle.record.specs.declared.Connection.{Connection}
 use Rattle.event.specs.declared.Input.{Input}
 
@@ -21,7 +21,7 @@ conditions name =
     ∷ nothing ∷ good_hello ∷ nothing ∷ good_token  -- 10 to 13
     ∷ nothing ∷ nothing ∷ nothing ∷ nothing  -- 14 to 17
     ∷ expected_bit ∷ next_send_bit  -- 18, 19
-    ∷ live (named name) ∷ live DAT ∷ live Ra ∷ live ACK  -- 20 to 23, from timers
+    ∷ live (named name) ∷ live DAT ∷ live RA ∷ live ACK  -- 20 to 23, from timers
     ∷ []
 
 -- The condition of a code; one above 23 has none.

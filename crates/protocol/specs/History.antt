@@ -5,7 +5,7 @@ use Rattle.std.specs.Prelude.{ℕ, ◌+◌, ◌-◌, Bool, true, false, not, ◌
 use Rattle.event.specs.Call.{Call, input_of}
 use Rattle.event.specs.Kind.{named}
 use Rattle.record.specs.Limits.{Limits}
-use Rattle.record.specs.Timer.{Timer, H, HP, HV, DAT, Ra, ACK}
+use Rattle.record.specs.Timer.{Timer, H, HP, HV, DAT, RA, ACK}
 use Rattle.table.specs.Sets.{is_in}
 use Rattle.protocol.specs.Faults.{early, late}
 use Rattle.protocol.specs.Notes.{Opening, fresh, hello_sent, opened, locked, off, running, good, Notes, is_fresh, is_hello_sent, is_open, is_running, is_good, is_missing, attested}
@@ -88,7 +88,7 @@ prover_succeeds notes code heard = eqb code 7 && is_open notes.opening && heard.
 abbrev pub verifier_starts : Notes → (code : ℕ) → Heard → Bool
 verifier_starts notes code heard =
     eqb code 3 && is_open notes.opening && is_good notes.verifier
-    || eqb code 22 && is_open notes.opening && is_good notes.verifier && heard.live Ra
+    || eqb code 22 && is_open notes.opening && is_good notes.verifier && heard.live RA
 
 -- Good by live 4.
 abbrev pub verifier_succeeds : Notes → (code : ℕ) → Heard → Bool
@@ -153,13 +153,13 @@ notes_after notes code heard = record {
 }
 
 -- What runs: H while greeted or the token is missing; HP and HV with their drivers; DAT while the token is current;
--- Ra from live 4 while the verifier is good; ACK while open, current, both good and waiting.
+-- RA from live 4 while the verifier is good; ACK while open, current, both good and waiting.
 unfoldable pub runs : Notes → Timer → Bool
 runs notes H = is_hello_sent notes.opening || is_missing notes
 runs notes HP = is_open notes.opening && is_running notes.prover
 runs notes HV = is_open notes.opening && is_running notes.verifier
 runs notes DAT = is_open notes.opening && notes.current
-runs notes Ra = is_open notes.opening && is_good notes.verifier
+runs notes RA = is_open notes.opening && is_good notes.verifier
 runs notes ACK = attested notes && notes.waiting
 
 -- The events that start again what may be running: the prover at every 14 or 17, ACK at a repeat.
@@ -168,7 +168,7 @@ restarts H code = false
 restarts HP code = is_in (14 ∷ 17 ∷ []) code
 restarts HV code = false
 restarts DAT code = false
-restarts Ra code = false
+restarts RA code = false
 restarts ACK code = eqb code 23
 
 -- The count at the latest start: the new one for what comes to run, or is started again.

@@ -1,9 +1,9 @@
 -- Document 01, "Timers", as request #102 amends it: when each timer starts, and when it ends.
--- Ra goes by its states like the others: event 4 alone leads into them, and out of them lead just what starts a verifier, 21 and locking.
+-- RA goes by its states like the others: event 4 alone leads into them, and out of them lead just what starts a verifier, 21 and locking.
 use Rattle.std.specs.Prelude.{ℕ, Bool, false, not, ◌&&◌, ◌||◌, cond, [], ◌∷◌, eqb}
 use Rattle.protocol.specs.Orders.{none, start, cancel}
 use Rattle.record.specs.Tags.{runs_in}
-use Rattle.record.specs.Timer.{Timer, H, HP, HV, DAT, Ra, ACK}
+use Rattle.record.specs.Timer.{Timer, H, HP, HV, DAT, RA, ACK}
 use Rattle.table.specs.Sets.{is_in}
 
 -- The events that start the prover in the published table. Event 11 does so only if it does not lock.
@@ -20,7 +20,7 @@ starts_again H code = false
 starts_again HP code = starts_prover code
 starts_again HV code = starts_verifier code
 starts_again DAT code = false
-starts_again Ra code = false
+starts_again RA code = false
 starts_again ACK code = eqb code 23
 
 -- A timer starts on coming into its states, or again within them. State 9 is no timer's, so locking starts none.
@@ -37,7 +37,7 @@ reports H code name = eqb code 20 && eqb name 0
 reports HP code name = eqb code 20 && eqb name 1
 reports HV code name = eqb code 20 && eqb name 2
 reports DAT code name = eqb code 21
-reports Ra code name = eqb code 22
+reports RA code name = eqb code 22
 reports ACK code name = eqb code 23
 
 -- The tag after an event: what starts carries the new number, what ends has 0.

@@ -1,12 +1,14 @@
 // The protocol of a connection as definitions: what a call gives, and what holds of any list of calls (`specs`, `proofs`).
 // The code that computes it is the crate `connection`; here are the types that definitions and code share.
+#![tactic(auto)]
+
 pub mod orders;
 pub mod refusals;
 
 use record::Connection;
 
 // What the host is to do: document 01's order sheet. The numbers are in `orders`.
-#[derive(Drop)]
+#[derive(Clone, Copy)]
 pub struct Actions {
     pub message: u32,
     // Orders to the drivers.
@@ -34,7 +36,7 @@ pub struct Actions {
 }
 
 // What became of an event.
-#[derive(Drop)]
+#[derive(Clone, Copy)]
 pub enum Answer {
     Handled,
     Ignored,
@@ -42,7 +44,7 @@ pub enum Answer {
 }
 
 // What a step gives back.
-#[derive(Drop)]
+#[derive(Clone, Copy)]
 pub struct Outcome {
     pub answer: Answer,
     pub connection: Connection,
