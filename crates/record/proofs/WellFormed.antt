@@ -7,7 +7,7 @@ use lib.Dec.{T, eqb, eqb→eq, leb, leb→le}
 use borrow.Author.Tests.{le-leb, not-true}
 use Rattle.record.specs.Limits.{Limits}
 use Rattle.record.specs.Tags.{tag_of, runs_in}
-use Rattle.record.specs.Timer.{Timer, H, HP, HV, DAT, Ra, ACK}
+use Rattle.record.specs.Timer.{Timer, H, HP, HV, DAT, RA, ACK}
 use Rattle.record.specs.WellFormed.{fresh, fields_fit, tags_at_most, number_fits, bits_fit, flag_fits, fits_state, on_just_in, well_formed}
 use Rattle.record.specs.declared.Connection.{Connection}
 use Rattle.record.proofs.EveryTimer.{timers_at}
@@ -38,7 +38,7 @@ tag_at_most c t H = search (and_left, and_right) depth 16
 tag_at_most c t HP = search (and_left, and_right) depth 16
 tag_at_most c t HV = search (and_left, and_right) depth 16
 tag_at_most c t DAT = search (and_left, and_right) depth 16
-tag_at_most c t Ra = search (and_left, and_right) depth 16
+tag_at_most c t RA = search (and_left, and_right) depth 16
 tag_at_most c t ACK = search (and_left, and_right) depth 16
 
 each_tag_fits : (c : Connection) → T (fits_state c.state c) → (timer : Timer) → T (on_just_in timer c.state (tag_of c timer))
@@ -46,7 +46,7 @@ each_tag_fits c t H = search (and_left, and_right) depth 16
 each_tag_fits c t HP = search (and_left, and_right) depth 16
 each_tag_fits c t HV = search (and_left, and_right) depth 16
 each_tag_fits c t DAT = search (and_left, and_right) depth 16
-each_tag_fits c t Ra = search (and_left, and_right) depth 16
+each_tag_fits c t RA = search (and_left, and_right) depth 16
 each_tag_fits c t ACK = search (and_left, and_right) depth 16
 
 bits_by : (c : Connection) → T (fits_state c.state c) → T (bits_fit c.state c.next_send_bit c.expected_bit)
@@ -87,7 +87,7 @@ whole limits c p =
       most HP,
       most HV,
       most DAT,
-      most Ra,
+      most RA,
       most ACK,
       p.number_fits,
       p.bits_fit,
@@ -96,7 +96,7 @@ whole limits c p =
       p.tag_fits HP,
       p.tag_fits HV,
       p.tag_fits DAT,
-      p.tag_fits Ra,
+      p.tag_fits RA,
       p.tag_fits ACK,
     ) tt
 

@@ -3,7 +3,7 @@ use Rattle.std.specs.Prelude.{ℕ, Bool, true, not, ◌&&◌, ◌||◌, cond, []
 use Rattle.record.specs.Limits.{Limits}
 use Rattle.table.specs.Sets.{is_in}
 use Rattle.record.specs.Tags.{runs_in}
-use Rattle.record.specs.Timer.{Timer, H, HP, HV, DAT, Ra, ACK}
+use Rattle.record.specs.Timer.{Timer, H, HP, HV, DAT, RA, ACK}
 use Rattle.record.specs.declared.Connection.{Connection}
 
 -- A record with a state and a number, all else 0.
@@ -73,7 +73,7 @@ fits_state state connection =
     && on_just_in HP state connection.prover
     && on_just_in HV state connection.verifier
     && on_just_in DAT state connection.dat
-    && on_just_in Ra state connection.ra
+    && on_just_in RA state connection.ra
     && on_just_in ACK state connection.ack
 
 -- The whole list of document 01, as request #102 amends it.

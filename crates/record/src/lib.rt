@@ -1,4 +1,6 @@
 // The record of a connection.
+#![tactic(auto)]
+
 ghost use Rattle.std.specs.Prelude.{◌≡◌};
 ghost use Rattle.record.specs.WellFormed as spec;
 
@@ -6,7 +8,7 @@ use table::states;
 
 // The record of a connection. A tag is 0 when its driver or timer is off, else the number of the
 // handled event that started it.
-#[derive(Drop)]
+#[derive(Clone, Copy)]
 pub struct Connection {
     pub state: u32,
     // Document 01's ack flag: 1 while a block waits for its acknowledgement.

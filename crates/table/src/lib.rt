@@ -1,4 +1,6 @@
 // The published table of the transport layer: which state follows an event.
+#![tactic(auto, unfolding(crate::specs::Table::cell))]
+
 ghost use Rattle.std.specs.Prelude.{◌≡◌, true, false};
 ghost use Rattle.table.specs.Table.{cell, settled};
 ghost use Rattle.table.specs.Report.{reported};

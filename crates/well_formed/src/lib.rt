@@ -1,5 +1,7 @@
 // The test whether a record is well formed, as document 01 lists it: the ranges of its fields, no tag above the number,
 // and what each state asks.
+#![tactic(auto)]
+
 ghost use Rattle.std.specs.Prelude.{◌≡◌};
 ghost use Rattle.record.specs.WellFormed as spec;
 ghost use Rattle.record.specs.Limits.{limits};
