@@ -1,6 +1,8 @@
 // The remaining time of a dynamic attribute token (DAT).
 //
 // Checking the token's signature is the host's work; its verdict is an argument here.
+#![tactic(auto)]
+
 ghost use Rattle.std.specs.Prelude.{◌≡◌};
 ghost use Rattle.token.specs.Answer.{time_left};
 ghost use Rattle.token.specs.Good.{good_seconds};
