@@ -1,4 +1,6 @@
 // The choice of attestation suites, made once when a connection opens.
+#![tactic(auto)]
+
 ghost use Rattle.std.specs.Prelude.{◌≡◌, true, ◌≤◌, length, take, drop};
 ghost use Rattle.suites.specs.Choice.{find, found_in, first_found, any_too_long, choice};
 ghost use Rattle.suites.specs.Numbers.{found_of, answer_of};
