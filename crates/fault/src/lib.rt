@@ -1,4 +1,6 @@
 // Why bytes are refused.
+#![tactic(auto)]
+
 ghost use Rattle.std.specs.Prelude.{◌≡◌};
 ghost use Rattle.fault.specs.Refusals.{refusal_number};
 
