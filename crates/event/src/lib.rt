@@ -1,5 +1,7 @@
 // What the step reads of a call's arguments: an event is opened by its kind, which its code fixes,
 // and a field is read only from the kind that carries it.
+#![tactic(auto)]
+
 ghost use Rattle.std.specs.Prelude.{◌≡◌, ◌&&◌, ltb};
 ghost use Rattle.record.specs.Limits.{limits};
 ghost use Rattle.event.specs.Kind.{kind_of, fields_of};
@@ -20,7 +22,7 @@ pub mod timers;
 const MAX_PAYLOAD: usize = 4096;
 
 // An event as the host hands it over. Only the fields that its code carries are read.
-#[derive(Drop)]
+#[derive(Clone, Copy)]
 pub struct Event {
     pub code: u32,
     pub tag: u32,
@@ -37,7 +39,7 @@ pub struct Event {
 }
 
 // What events carry besides their payload and their suite lists.
-#[derive(Drop)]
+#[derive(Clone, Copy)]
 pub enum EventKind {
     Plain,
     Tagged(u32),
@@ -55,7 +57,7 @@ pub enum EventKind {
 }
 
 // The suites of a hello, whether both are found, and whether a list is too long.
-#[derive(Drop)]
+#[derive(Clone, Copy)]
 pub struct Suites {
     pub too_long: bool,
     pub found: bool,
@@ -71,7 +73,7 @@ const NO_SUITES: Suites = Suites {
 };
 
 // What the step reads of a call, besides the code.
-#[derive(Drop)]
+#[derive(Clone, Copy)]
 pub struct Input {
     pub tag: u32,
     pub timer: u32,
@@ -86,6 +88,7 @@ pub struct Input {
 }
 
 // The kind that an event's code fixes.
+#[tactic(auto, unfolding(crate::specs::Kind::kind_of))]
 fn kind_of(event: Event) -> EventKind
     ensures { result ≡ kind_of event }
 {
@@ -263,6 +266,7 @@ fn payload_too_long(code: u32, len: usize) -> bool
 }
 
 // What the step reads of a call.
+#[tactic(auto, using(crate::proofs::Opening::good_seconds), unfolding(crate::specs::Call::input_by))]
 pub fn read(event: Event, payload_len: usize, cache_len: usize, suites: Suites) -> Input
     ensures { result ≡ input_by limits event payload_len cache_len suites }
 {

@@ -8,14 +8,14 @@ ghost use Rattle.suites.specs.Numbers.{found_of, answer_of};
 const MAX_ENTRIES: usize = 16;
 
 // The first suite that two lists have in common, if any.
-#[derive(Drop)]
+#[derive(Clone, Copy)]
 pub enum Common {
     Suite(u32),
     Nothing,
 }
 
 // Both suites, or refusal 6: a list has more than 16 entries.
-#[derive(Drop)]
+#[derive(Clone, Copy)]
 pub enum Choice {
     Chosen { verifier: Common, prover: Common },
     TooLong,

@@ -17,7 +17,7 @@ const MINUS_DAY: i64 = -86_400;
 const MAX_MARGIN: u32 = 300;
 
 // The seconds left, or refusal 9: the margin is above 300.
-#[derive(Drop)]
+#[derive(Clone, Copy)]
 pub enum TimeLeft {
     Seconds(i64),
     MarginTooLarge,
