@@ -15,7 +15,7 @@ use Rattle.table.specs.Sets.{is_in}
 use Rattle.protocol.specs.Step.{handled_to}
 use Rattle.table.specs.Table.{cell, settled}
 use Rattle.record.specs.Tags.{tag_of, runs_in}
-use Rattle.record.specs.Timer.{Timer, H, HP, HV, DAT, Ra, ACK}
+use Rattle.record.specs.Timer.{Timer, H, HP, HV, DAT, RA, ACK}
 use Rattle.protocol.specs.Timers.{starts, ends, reports, tag_after, timer_order}
 use Rattle.record.specs.WellFormed.{well_formed}
 use Rattle.protocol.specs.declared.Answer.TheVariants.{Handled}
@@ -110,10 +110,10 @@ fit_by s k to e t =
 
 -- The record and the sheet of a move, by the tags and the orders.
 moved_by : (f g : Timer → ℕ) → ((x : Timer) → f x ≡ g x) → (number : ℕ) (connection : Connection) (code : ℕ) (input : Input) (to : ℕ) → moved f number connection code input to ≡ moved g number connection code input to
-moved_by f g p number connection code input to = rw (p H, p HP, p HV, p DAT, p Ra, p ACK)
+moved_by f g p number connection code input to = rw (p H, p HP, p HV, p DAT, p RA, p ACK)
 
 actions_by : (f g : Timer → ℕ) → ((x : Timer) → f x ≡ g x) → (connection : Connection) (code : ℕ) (input : Input) → moving_actions f connection code input ≡ moving_actions g connection code input
-actions_by f g p connection code input = rw (p H, p HP, p HV, p DAT, p Ra, p ACK)
+actions_by f g p connection code input = rw (p H, p HP, p HV, p DAT, p RA, p ACK)
 
 otherwise : {A : Type 0} (b : Bool) (x y : A) → b ≡ false → cond b x y ≡ y
 otherwise true x y e = absurd (subst (λ (c : Bool). T c) e tt)
@@ -125,7 +125,7 @@ reports_by H k name e = rw e
 reports_by HP k name e = rw e
 reports_by HV k name e = rw e
 reports_by DAT k name e = refl
-reports_by Ra k name e = refl
+reports_by RA k name e = refl
 reports_by ACK k name e = refl
 
 module _ (limits : Limits) (connection : Connection) (code : ℕ) (input : Input) (to : ℕ)

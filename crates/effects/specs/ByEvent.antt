@@ -4,7 +4,7 @@ use Rattle.std.specs.Prelude.{ℕ, true, false, cond, List, [], ◌∷◌, eqb, 
 use Rattle.protocol.specs.Orders as order
 use Rattle.record.specs.Tags.{tag_of}
 use Rattle.table.specs.Sets.{is_in}
-use Rattle.record.specs.Timer.{Timer, H, HP, HV, DAT, Ra, ACK}
+use Rattle.record.specs.Timer.{Timer, H, HP, HV, DAT, RA, ACK}
 use Rattle.protocol.specs.Timers.{timer_order}
 use Rattle.protocol.specs.Advance.{locked, moved}
 use Rattle.protocol.specs.Actions.{locking_actions, moving_actions, orders_of}
@@ -17,13 +17,13 @@ use Rattle.event.specs.declared.Input.{Input}
 pub data Effect : Type 0 where
   keep start cancel expire clear : Effect
 
--- The effects on H, HP, HV, DAT, Ra and ACK.
+-- The effects on H, HP, HV, DAT, RA and ACK.
 abbrev pub six : (h hp hv dat ra ack : Effect) → Timer → Effect
 six h hp hv dat ra ack H = h
 six h hp hv dat ra ack HP = hp
 six h hp hv dat ra ack HV = hv
 six h hp hv dat ra ack DAT = dat
-six h hp hv dat ra ack Ra = ra
+six h hp hv dat ra ack RA = ra
 six h hp hv dat ra ack ACK = ack
 
 -- A row for each code from 0 to 23, by the state after.

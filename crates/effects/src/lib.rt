@@ -1,6 +1,8 @@
 // What a handled event does, event by event: the definition that `lifecycle`, `attestation`, `renewal` and `transfer` promise, and the
 // proof that it is what the rules of `protocol` say (`specs`, `proofs`). Here is what these crates share: the empty order sheet, and a
 // choice between two numbers.
+#![tactic(auto)]
+
 ghost use Rattle.std.specs.Prelude.{◌≡◌, cond};
 
 use protocol::{Actions, orders};

@@ -1,4 +1,6 @@
 // Record and actions as numbers in a fixed order, as a host in C holds them.
+#![tactic(auto)]
+
 ghost use Rattle.std.specs.Prelude.{◌≡◌};
 ghost use Rattle.flat.specs.Flat.{actions_in, as_number, numbers_of, record_in, slots_of};
 ghost use Rattle.flat.specs.Written.{Written};
