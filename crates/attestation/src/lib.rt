@@ -1,5 +1,7 @@
 // What the drivers of an attestation report, and the messages between them and the peer: the handled events 4, 6, 7, 9, 15 and 16. What
 // a function doesn't set stays as it is.
+#![tactic(auto)]
+
 ghost use Rattle.std.specs.Prelude.{◌≡◌, cond};
 ghost use Rattle.effects.specs.ByEvent.{by_event};
 

@@ -1,4 +1,6 @@
 // What opens and locks a connection: the handled events of document 01's opening note. What a function doesn't set stays as it is.
+#![tactic(auto)]
+
 ghost use Rattle.std.specs.Prelude.{◌≡◌};
 ghost use Rattle.effects.specs.ByEvent.{by_event};
 

@@ -1,5 +1,7 @@
 // What asks for a fresh attestation or a fresh token, and what brings it: the handled events 3, 13, 14, 17, 21 and 22. What a function
 // doesn't set stays as it is.
+#![tactic(auto)]
+
 ghost use Rattle.std.specs.Prelude.{◌≡◌, cond};
 ghost use Rattle.effects.specs.ByEvent.{by_event};
 

@@ -1,5 +1,7 @@
 // What sends, delivers, acknowledges and repeats a block: the handled events of document 01's block note. What a function
 // doesn't set stays as it is.
+#![tactic(auto)]
+
 ghost use Rattle.std.specs.Prelude.{◌≡◌};
 ghost use Rattle.protocol.specs.Advance.{flipped};
 ghost use Rattle.effects.specs.ByEvent.{by_event};
