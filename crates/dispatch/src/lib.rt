@@ -1,4 +1,6 @@
 // Gives a handled event that doesn't lock to its function, by its code.
+#![tactic(auto)]
+
 ghost use Rattle.effects.specs.ByEvent.{by_event, moving_code};
 ghost use Rattle.flat.specs.Written.{Written};
 
