@@ -1,18 +1,21 @@
 -- The seconds of a good token fit 32 bits, since they are at most a day.
-use Rattle.std.proofs.Common.{◌≡◌, arith, rules, ap, sym, ◌∙◌, ℤ, pos, FitsSigned, w64, to_z, of_z}
-use Rattle.std.proofs.lemmas.Int.{to_z-of_z}
-use lib.Signed.{le_z}
-use Rattle.token.specs.Answer.{Answer, left, time_left}
+use Rattle.std.proofs.Common.{◌≡◌, arith, rules, ◌≤◌, true, ap, ◌∙◌, ℤ, pos, nat_abs, Fits, w32, FitsSigned, w64}
+use Rattle.std.proofs.lemmas.Int.{ints, to_z-of_z}
+use lib.Dec.{T}
+use lib.Signed.{le_z, non_neg}
+use Rattle.token.specs.Answer.{Answer}
 use Rattle.token.proofs.Good.{at_most_day}
 use Rattle.token.proofs.good_seconds.Goals as goal
+
+at_most_32_bits : (z : ℤ) → T (non_neg z) × (nat_abs z ≤ 86400) → T (non_neg z) × Fits w32 (nat_abs z)
+at_most_32_bits z day = (day.0, omega arith)
 
 pub overflow_cast-result : goal.overflow_cast-result
 overflow_cast-result c =
     let expiry_fits = c.ranges.expiry in
     let now_fits = c.ranges.now in
     let left_fits : FitsSigned w64 c.in-Seconds.left = search rules in
-    let answer : left c.in-Seconds.left ≡ time_left c.args.expiry c.args.now c.args.margin = simp to_z-of_z at c.in-Seconds.ensures in
-    let same : to_z w64 (of_z w64 c.in-Seconds.left) ≡ (time_left c.args.expiry c.args.now c.args.margin).seconds =
-    to_z-of_z w64 _ left_fits ∙ ap (λ (a : Answer). a.seconds) answer in
-    let fit = at_most_day _ _ _ (ap (λ (z : ℤ). le_z (pos 1) z) (sym same) ∙ c.if-left-ge1.true) in
-    rw same (fit.0, omega arith)
+    let answer = simp to_z-of_z at c.in-Seconds.ensures in
+    let same = to_z-of_z w64 c.in-Seconds.left left_fits ∙ ap (λ (a : Answer). a.seconds) answer in
+    let positive : le_z (pos 1) c.in-Seconds.left ≡ true = grind (arith, ints) in
+    rw same (at_most_32_bits _ (at_most_day _ _ _ (rw (← ap (λ (a : Answer). a.seconds) answer) positive)))
