@@ -34,6 +34,7 @@ fn handshake_tag(connection: Connection, timer: u32) -> u32
 }
 
 // Whether the condition of an event holds.
+#[tactic(auto, unfolding(protocol::specs::Condition::holds))]
 pub fn holds(connection: Connection, code: u32, input: Input) -> bool
     ensures { result ≡ spec.holds connection code input }
 {

@@ -1,4 +1,6 @@
 // What a host reads off a step's outcome: the number of a refusal, and the payload part that the actions name.
+#![tactic(auto)]
+
 ghost use Rattle.std.specs.Prelude.{◌≡◌};
 ghost use Rattle.protocol.specs.Block as spec;
 ghost use Rattle.protocol.specs.Step.{refusal_number};
@@ -16,6 +18,7 @@ pub fn refusal_number(answer: Answer) -> u32
 }
 
 // The payload part of a call's actions: of the event's payload, or of the cache as the step left it.
+#[tactic(auto, unfolding(protocol::specs::Block::part_of))]
 pub fn part<'a>(actions: Actions, payload: &'a [u8], cache: &'a [u8]) -> &'a [u8]
     ensures { result.now ≡ spec.part_of actions payload.now cache.now }
 {
