@@ -7,7 +7,7 @@ use Rattle.fault.specs.Fault.{Reading, judged}
 use Rattle.wire.specs.Lists.{of_entries, suites_from}
 use Rattle.wire.specs.Parts.{Listed, listed}
 use Rattle.wire.specs.declared.varint.Said as first
-use Rattle.wire.specs.declared.varint.Said.TheVariants as first-say
+use Rattle.wire.specs.declared.varint.Said.TheVariants as first_say
 
 -- What is said by bytes behind `width` others, which say `low` and whose next bit would count `scale`.
 abbrev pub behind : (low scale width : ℕ) → Said → Said
@@ -17,9 +17,9 @@ behind low scale width endless = endless
 
 -- What the first `most` bytes say, of all that the bytes say.
 abbrev pub SaidBy : (most : ℕ) → first.Said → List ℕ → Type 0
-SaidBy most (first-say.Value number width) bytes = said 10 bytes ≡ says number width
-SaidBy most first-say.Cut bytes = said 10 bytes ≡ cut
-SaidBy most (first-say.More low) bytes = said 10 bytes ≡ behind low (128 ^ most) most (said (10 - most) (drop most bytes))
+SaidBy most (first_say.Value number width) bytes = said 10 bytes ≡ says number width
+SaidBy most first_say.Cut bytes = said 10 bytes ≡ cut
+SaidBy most (first_say.More low) bytes = said 10 bytes ≡ behind low (128 ^ most) most (said (10 - most) (drop most bytes))
 
 -- A packed list from `start` to the end of the bytes.
 unfoldable pub list_from : List ℕ → ℕ → Reading Listed

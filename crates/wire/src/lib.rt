@@ -1,4 +1,5 @@
 // The public wire format of Protocol Buffers in lent bytes: numbers, length-delimited parts and packed lists.
+#![tactic(auto)]
 
 mod block;
 mod list;

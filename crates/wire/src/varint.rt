@@ -16,6 +16,9 @@ const LARGEST_BIT: u32 = 1;
 // So many bytes say less than 2^63; one more may not fit 64 bits.
 const SAFE_WIDTH: usize = 9;
 
+// With any bit of a tenth byte a number does not fit.
+const LARGEST_TENTH: u8 = 0;
+
 // So many bytes say every number of 32 bits.
 const SHORT_WIDTH: usize = 5;
 
@@ -86,7 +89,7 @@ fn long_number(bytes: &[u8], place: usize) -> Varint
             if SAFE_WIDTH >= bytes.len() {
                 return Varint::Fault(Refusal::EndsTooSoon);
             }
-            if bytes[SAFE_WIDTH] > 0 {
+            if bytes[SAFE_WIDTH] > LARGEST_TENTH {
                 return Varint::Fault(Refusal::NumberTooLarge);
             }
             fitting(low, place + 10)

@@ -1,0 +1,9 @@
+use Rattle.std.proofs.Common.{sym}
+use Rattle.wire.proofs.Places.{after_read, within}
+use Rattle.wire.proofs.block.block_at.Goals as goal
+
+pub overflow_sub-bytes : goal.overflow_sub-bytes
+overflow_sub-bytes c = (after_read _ _ _ _ (sym c.in-Number.ensures)).1
+
+pub returns-else-bytes-start : goal.returns-else-bytes-start
+returns-else-bytes-start c = within _ _ _ _ (sym c.in-Number.ensures) c.if-bytes-start.false

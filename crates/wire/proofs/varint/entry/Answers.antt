@@ -1,0 +1,32 @@
+use Rattle.std.proofs.Common.{sym, ap, subst, ◌∙◌, List, ℕ, ◌-◌, length, take, drop, length-drop, arith}
+use Rattle.wire.specs.Varint.{said, number_from, number_at}
+use Rattle.wire.specs.Bytes.{SaidBy}
+use Rattle.wire.specs.declared.varint.Said.{Said}
+use Rattle.wire.specs.declared.varint.Said.TheVariants.{Value, Cut}
+use Rattle.wire.proofs.Places.{Fits, fits}
+use Rattle.wire.proofs.Varints.{from_place}
+use Rattle.wire.proofs.varint.entry.Goals as goal
+
+-- What the first five bytes say is said of those from the place on.
+said_by : (bytes : List ℕ) (place : ℕ) (r : Said) → SaidBy 5 r (take (length bytes - place) (drop place bytes)) → SaidBy 5 r (drop place bytes)
+said_by bytes place r s = subst (λ (l : List ℕ). SaidBy 5 r l) (from_place bytes place) s
+
+pub overflow_add-place : goal.overflow_add-place
+overflow_add-place c =
+    let b = c.args.bytes.now in
+    let e = said_by b c.args.place (Value c.in-Value.number c.in-Value.width) c.in-Value.ensures in
+    omega (arith, (subst (Fits (length (drop c.args.place b))) e (fits 10 (drop c.args.place b))).1, length-drop c.args.place b, c.requires)
+
+pub returns-in-Value : goal.returns-in-Value
+unfolding number_at
+returns-in-Value c = c.fitting.ensures ∙ ap (number_from c.args.place) (sym (said_by c.args.bytes.now c.args.place (Value c.in-Value.number c.in-Value.width) c.in-Value.ensures))
+
+pub returns-in-Cut : goal.returns-in-Cut
+unfolding number_at
+returns-in-Cut c = ap (number_from c.args.place) (sym (said_by c.args.bytes.now c.args.place Cut c.in-Cut.ensures))
+
+pub returns-in-More : goal.returns-in-More
+unfolding number_at
+returns-in-More c =
+    c.long_number.ensures
+    ∙ ap (λ (l : List ℕ). number_from c.args.place (said 10 l)) (from_place c.args.bytes.now c.args.place)
