@@ -1,34 +1,62 @@
 // The boot run of document 01: after each call a line with the state and the number of handled events.
+#![tactic(auto)]
+
 use connection::{Connection, Event, codes, fresh, step};
-use libc::STDOUT_FILENO;
+use std::io;
+use std::io::Write;
 
 const NOW: i64 = 1_000;
 
 const EXPIRY: i64 = 1_060;
 
-fn main() {
+fn main(rt: HostRuntime) -> io::Result<()> {
+    run(&mut rt.stdout())
+}
+
+fn run<W: Write>(out: &mut W) -> io::Result<()> {
     let mut cache = [0u8; 4096];
     let greeted = call(
+        out,
         fresh(),
         event(codes::UPPER_START_HANDSHAKE, 0),
         &[],
         &mut cache,
-    );
-    let opened = call(greeted, event(codes::SC_HELLO, 0), &[], &mut cache);
-    let proved = call(opened, event(codes::RA_PROVER_OK, 2), &[], &mut cache);
-    let ignored = call(proved, event(codes::RA_VERIFIER_OK, 1), &[], &mut cache);
-    let established = call(ignored, event(codes::RA_VERIFIER_OK, 2), &[], &mut cache);
+    )?;
+    let opened = call(out, greeted, event(codes::SC_HELLO, 0), &[], &mut cache)?;
+    let proved = call(out, opened, event(codes::RA_PROVER_OK, 2), &[], &mut cache)?;
+    let ignored = call(
+        out,
+        proved,
+        event(codes::RA_VERIFIER_OK, 1),
+        &[],
+        &mut cache,
+    )?;
+    let established = call(
+        out,
+        ignored,
+        event(codes::RA_VERIFIER_OK, 2),
+        &[],
+        &mut cache,
+    )?;
     let block = [1u8, 2, 3, 4, 5];
     let sent = call(
+        out,
         established,
         event(codes::UPPER_SEND_DATA, 0),
         &block,
         &mut cache,
-    );
-    let proving = call(sent, event(codes::SC_RE_RA, 0), &[], &mut cache);
-    let ignored = call(proving, event(codes::RA_PROVER_OK, 2), &[], &mut cache);
-    let acknowledged = call(ignored, event(codes::SC_ACK, 0), &[], &mut cache);
-    call(acknowledged, event(codes::RA_PROVER_OK, 6), &[], &mut cache);
+    )?;
+    let proving = call(out, sent, event(codes::SC_RE_RA, 0), &[], &mut cache)?;
+    let ignored = call(out, proving, event(codes::RA_PROVER_OK, 2), &[], &mut cache)?;
+    let acknowledged = call(out, ignored, event(codes::SC_ACK, 0), &[], &mut cache)?;
+    call(
+        out,
+        acknowledged,
+        event(codes::RA_PROVER_OK, 6),
+        &[],
+        &mut cache,
+    )?;
+    Ok(())
 }
 
 // The run's events have bit 0, and its token a verdict of yes and margin 0.
@@ -45,7 +73,13 @@ fn event(code: u32, tag: u32) -> Event {
     }
 }
 
-fn call(before: Connection, event: Event, payload: &[u8], cache: &mut [u8]) -> Connection {
+fn call<W: Write>(
+    out: &mut W,
+    before: Connection,
+    event: Event,
+    payload: &[u8],
+    cache: &mut [u8],
+) -> io::Result<Connection> {
     let outcome = step(
         before,
         event,
@@ -57,9 +91,6 @@ fn call(before: Connection, event: Event, payload: &[u8], cache: &mut [u8]) -> C
         cache,
     );
     let after = outcome.connection;
-    io::print_decimal(STDOUT_FILENO, after.state as u64);
-    io::write_all(STDOUT_FILENO, b" ");
-    io::print_decimal(STDOUT_FILENO, after.handled as u64);
-    io::write_all(STDOUT_FILENO, b"\n");
-    after
+    writeln!(out, "{} {}", after.state, after.handled)?;
+    Ok(after)
 }

@@ -2,12 +2,14 @@
 use crate::lists::{ENTRIES, are_understood, list};
 use capi::menhotrac_choose_suites;
 use scan::groups;
+use std::io;
+use std::io::Write;
 use stdio::print;
 
 // Answers what follows the word; false where it is not understood.
-pub fn answer(row: &[u8]) -> bool {
+pub fn answer<W: Write>(out: &mut W, row: &[u8]) -> io::Result<bool> {
     if !(are_understood(row, 0) & (groups(row) == 4)) {
-        return false;
+        return Ok(false);
     }
     let mut our_verifiers = [0u32; ENTRIES];
     let mut peer_provers = [0u32; ENTRIES];
@@ -21,14 +23,14 @@ pub fn answer(row: &[u8]) -> bool {
         list(row, 3, &mut our_provers),
         &mut chosen,
     );
-    show(refusal, &chosen);
-    true
+    show(out, refusal, &chosen)?;
+    Ok(true)
 }
 
-fn show(refusal: u32, chosen: &[u32; 4]) {
-    print::text(b"suites");
-    print::number(refusal as u64);
-    print::semicolon();
-    print::numbers(chosen);
-    print::newline();
+fn show<W: Write>(out: &mut W, refusal: u32, chosen: &[u32; 4]) -> io::Result<()> {
+    print::text(out, b"suites")?;
+    print::number(out, refusal as u64)?;
+    print::semicolon(out)?;
+    print::numbers(out, chosen)?;
+    print::newline(out)
 }

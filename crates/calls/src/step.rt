@@ -5,6 +5,8 @@ use connection::part;
 use flat::actions_in;
 use interface::FlatEvent;
 use scan::{BYTES, bytes, groups, item, numbers, signed};
+use std::io;
+use std::io::Write;
 use stdio::print;
 
 #[derive(Drop)]
@@ -38,7 +40,7 @@ fn event_in(row: &[u8]) -> Event {
 }
 
 // Answers what follows the word; false where it is not understood.
-pub fn answer(row: &[u8]) -> bool {
+pub fn answer<W: Write>(out: &mut W, row: &[u8]) -> io::Result<bool> {
     let mut record = [0u32; 12];
     let mut payload = [0u8; BYTES];
     let mut cache = [0u8; BYTES];
@@ -54,28 +56,30 @@ pub fn answer(row: &[u8]) -> bool {
         & are_understood(row, 4)
         & (groups(row) == 8);
     if !is_understood {
-        return false;
+        return Ok(false);
     }
     let m = sent.len;
     let n = kept.len;
     call(
+        out,
         row,
         &mut record,
         event.fields,
         &payload[0..m],
         &mut cache[0..n],
-    );
-    true
+    )?;
+    Ok(true)
 }
 
 // With the suite lists, which are the groups from 4 on.
-fn call<'a>(
+fn call<'a, W: Write>(
+    out: &mut W,
     row: &[u8],
     record: &mut [u32; 12],
     event: FlatEvent,
     payload: &'a [u8],
     cache: &'a mut [u8],
-) {
+) -> io::Result<()> {
     let mut our_verifiers = [0u32; ENTRIES];
     let mut peer_provers = [0u32; ENTRIES];
     let mut peer_verifiers = [0u32; ENTRIES];
@@ -92,25 +96,26 @@ fn call<'a>(
         list(row, 6, &mut peer_verifiers),
         list(row, 7, &mut our_provers),
     );
-    show(answer, record, &actions, payload, cache);
+    show(out, answer, record, &actions, payload, cache)
 }
 
-fn show<'a>(
+fn show<'a, W: Write>(
+    out: &mut W,
     answer: u32,
     record: &[u32; 12],
     actions: &[u32; 16],
     payload: &'a [u8],
     cache: &'a [u8],
-) {
-    print::text(b"step");
-    print::number(answer as u64);
-    print::semicolon();
-    print::numbers(record);
-    print::semicolon();
-    print::numbers(actions);
-    print::semicolon();
-    print::bytes(part(actions_in(actions), payload, cache));
-    print::semicolon();
-    print::bytes(cache);
-    print::newline();
+) -> io::Result<()> {
+    print::text(out, b"step")?;
+    print::number(out, answer as u64)?;
+    print::semicolon(out)?;
+    print::numbers(out, record)?;
+    print::semicolon(out)?;
+    print::numbers(out, actions)?;
+    print::semicolon(out)?;
+    print::bytes(out, part(actions_in(actions), payload, cache))?;
+    print::semicolon(out)?;
+    print::bytes(out, cache)?;
+    print::newline(out)
 }

@@ -1,27 +1,36 @@
 // The events that lead from a state to a state, a line for each, in the label of an edge or, where the state stays, of a node.
 use crate::cells::Flags;
 use crate::{cells, names, print};
+use std::io;
+use std::io::Write;
 use table::{codes, states};
 
 // Whether there is any; the label then still has to be closed.
-pub(crate) fn list(from: u32, to: u32) -> bool {
+pub(crate) fn list<W: Write>(out: &mut W, from: u32, to: u32) -> io::Result<bool> {
     let mut begun = false;
     for code in codes::UPPER_START_HANDSHAKE..=codes::ACK_TIMEOUT {
-        begun = line(from, to, code, true, begun);
-        begun = line(from, to, code, false, begun);
+        begun = line(out, from, to, code, true, begun)?;
+        begun = line(out, from, to, code, false, begun)?;
     }
-    begun
+    Ok(begun)
 }
 
-fn line(from: u32, to: u32, code: u32, held: bool, begun: bool) -> bool {
+fn line<W: Write>(
+    out: &mut W,
+    from: u32,
+    to: u32,
+    code: u32,
+    held: bool,
+    begun: bool,
+) -> io::Result<bool> {
     if !shown(from, to, code, held) {
-        return begun;
+        return Ok(begun);
     }
     if !begun {
-        begin(from, to);
+        begin(out, from, to)?;
     }
-    event(from, to, code, held);
-    true
+    event(out, from, to, code, held)?;
+    Ok(true)
 }
 
 // A condition that isn't asked has one line, and what the note says of all states isn't said again.
@@ -45,73 +54,73 @@ fn noted(from: u32, to: u32, code: u32) -> bool {
     to == states::CLOSED_LOCKED && cells::open(from) && cells::locks(code)
 }
 
-fn begin(from: u32, to: u32) {
+fn begin<W: Write>(out: &mut W, from: u32, to: u32) -> io::Result<()> {
     if from == to {
-        start(from, to);
-        print::text(b"stays at:");
-        end(from, to);
+        start(out, from, to)?;
+        print::text(out, b"stays at:")?;
+        end(out, from, to)
     } else {
-        print::text(b"  ");
-        print::number(from);
-        print::text(b" -> ");
-        print::number(to);
-        print::text(b" [label=\"");
+        print::text(out, b"  ")?;
+        print::number(out, from)?;
+        print::text(out, b" -> ")?;
+        print::number(out, to)?;
+        print::text(out, b" [label=\"")
     }
 }
 
-fn event(from: u32, to: u32, code: u32, held: bool) {
-    start(from, to);
-    names::event(code);
+fn event<W: Write>(out: &mut W, from: u32, to: u32, code: u32, held: bool) -> io::Result<()> {
+    start(out, from, to)?;
+    names::event(out, code)?;
     if cells::fails(from, code) {
-        condition(code, held);
+        condition(out, code, held)?;
     }
     let flags = cells::reach(from, to, code, held);
     match flags {
-        Flags::Clear => branch(from, to, b"without"),
-        Flags::Set => branch(from, to, b"with"),
+        Flags::Clear => branch(out, from, to, b"without")?,
+        Flags::Set => branch(out, from, to, b"with")?,
         _ => {}
     }
-    end(from, to);
+    end(out, from, to)
 }
 
 // Document 01 has "13 good" and "13 bad", and of a hello only the condition itself.
-fn condition(code: u32, held: bool) {
+fn condition<W: Write>(out: &mut W, code: u32, held: bool) -> io::Result<()> {
     if code == codes::SC_DAT {
         if held {
-            print::text(b" good");
+            print::text(out, b" good")
         } else {
-            print::text(b" bad");
+            print::text(out, b" bad")
         }
     } else if held {
-        print::text(b" passes");
+        print::text(out, b" passes")
     } else {
-        print::text(b" fails");
+        print::text(out, b" fails")
     }
 }
 
 // Document 01's "7/8": the ack flag is set while a block waits for its acknowledgement.
-fn branch(from: u32, to: u32, preposition: &[u8]) {
-    print::text(b",");
-    end(from, to);
-    start(from, to);
-    print::text(b"   ");
-    print::text(preposition);
-    print::text(b" a waiting block");
+fn branch<W: Write>(out: &mut W, from: u32, to: u32, preposition: &[u8]) -> io::Result<()> {
+    print::text(out, b",")?;
+    end(out, from, to)?;
+    start(out, from, to)?;
+    print::text(out, b"   ")?;
+    print::text(out, preposition)?;
+    print::text(out, b" a waiting block")
 }
 
 // A node's label is a table, for its bold name. In an edge's label the space keeps the text clear of the edge.
-fn start(from: u32, to: u32) {
+fn start<W: Write>(out: &mut W, from: u32, to: u32) -> io::Result<()> {
     if from == to {
-        print::text(b"    <TR><TD ALIGN=\"LEFT\">");
+        print::text(out, b"    <TR><TD ALIGN=\"LEFT\">")
     } else {
-        print::text(b" ");
+        print::text(out, b" ")
     }
 }
 
-fn end(from: u32, to: u32) {
+fn end<W: Write>(out: &mut W, from: u32, to: u32) -> io::Result<()> {
     if from == to {
-        print::text(b"</TD></TR>\n");
+        print::text(out, b"</TD></TR>\n")
     } else {
-        print::text(b"\\l");
+        print::text(out, b"\\l")
     }
 }

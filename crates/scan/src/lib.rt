@@ -1,6 +1,8 @@
 // What stands in a line of text: a word, and after it groups of items. Groups stand between `;`, items between blanks.
 //
 // Any bytes may be given. Where they are no number, or not all of them are understood, the answer says so.
+#![tactic(auto)]
+
 ghost use Rattle.std.specs.Prelude.{◌≤◌, length};
 
 mod decimal;

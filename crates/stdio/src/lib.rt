@@ -1,9 +1,12 @@
-// Lines of standard input, and numbers and bytes on standard output.
-ghost use Rattle.std.specs.Prelude.{◌≤◌, length};
+// Lines of input, and numbers and bytes on an output.
+#![tactic(auto)]
+
+ghost use Rattle.std.specs.Prelude.{◌≤◌, IfOk, length};
 
 pub mod print;
 
-use libc::STDIN_FILENO;
+use std::io;
+use std::io::Read;
 
 const NEWLINE: u8 = b'\n';
 
@@ -15,20 +18,9 @@ pub struct Line {
     pub is_missing: bool,
 }
 
-#[derive(Drop)]
-struct Byte {
-    value: u8,
-    is_missing: bool,
-}
-
-// One byte for each call of C's read, so that nothing of the input is kept between lines.
-fn next_byte() -> Byte {
-    let mut byte = [0u8; 1];
-    let count = io::read_full(STDIN_FILENO, &mut byte);
-    Byte {
-        value: byte[0],
-        is_missing: count == 0,
-    }
+// One byte for each read, so that nothing of the input is kept between lines.
+fn next_byte<R: Read>(input: &mut R) -> io::Result<Option<u8>> {
+    input.bytes().next().transpose()
 }
 
 // Stores a byte of a line, if there is room for it.
@@ -58,20 +50,17 @@ fn line_in(line: &[u8], size: usize, is_missing: bool) -> Line
 
 // Reads the next line into a buffer, without its newline. A line that is longer than the buffer is read to its end.
 // Nothing says that a line ends, so its bytes are counted.
-pub fn read_line(line: &mut [u8]) -> Line
-    ensures { result.len ≤ length line.new }
+pub fn read_line<R: Read>(input: &mut R, line: &mut [u8]) -> io::Result<Line>
+    ensures { IfOk result (λ found. found.len ≤ length line.new) }
 {
     let mut size: usize = 0;
     while size < usize::MAX {
-        let byte = next_byte();
-        if byte.is_missing {
-            return line_in(line, size, size == 0);
+        match next_byte(input)? {
+            None => return Ok(line_in(line, size, size == 0)),
+            Some(NEWLINE) => return Ok(line_in(line, size, false)),
+            Some(byte) => put(line, size, byte),
         }
-        if byte.value == NEWLINE {
-            return line_in(line, size, false);
-        }
-        put(line, size, byte.value);
         size += 1;
     }
-    line_in(line, size, true)
+    Ok(line_in(line, size, true))
 }

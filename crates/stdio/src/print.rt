@@ -1,57 +1,52 @@
-// Text, and items of a line, on standard output. An item is a number, a run of bytes or a `;`, and stands after a blank.
+// Text, and items of a line, on an output. An item is a number, a run of bytes or a `;`, and stands after a blank.
 ghost use Rattle.std.specs.Prelude.{◌<◌, ◌≤◌, length};
 
-use libc::STDOUT_FILENO;
+use std::io;
+use std::io::Write;
 
-pub fn text(s: &[u8]) {
-    io::write_all(STDOUT_FILENO, s);
+pub fn text<W: Write>(out: &mut W, s: &[u8]) -> io::Result<()> {
+    out.write_all(s)
 }
 
-pub fn newline() {
-    text(b"\n");
+pub fn newline<W: Write>(out: &mut W) -> io::Result<()> {
+    text(out, b"\n")
 }
 
-pub fn line(s: &[u8]) {
-    text(s);
-    newline();
+pub fn line<W: Write>(out: &mut W, s: &[u8]) -> io::Result<()> {
+    text(out, s)?;
+    newline(out)
 }
 
 // Between two groups.
-pub fn semicolon() {
-    text(b" ;");
+pub fn semicolon<W: Write>(out: &mut W) -> io::Result<()> {
+    text(out, b" ;")
 }
 
-pub fn number(n: u64) {
-    text(b" ");
-    io::print_decimal(STDOUT_FILENO, n);
+pub fn number<W: Write>(out: &mut W, n: u64) -> io::Result<()> {
+    write!(out, " {n}")
 }
 
-// The size of a number below 0 is 1 more than its complement. The smallest number has no opposite in 64 bits.
-pub fn signed(z: i64) {
-    if z < 0 {
-        text(b" -");
-        io::print_decimal(STDOUT_FILENO, !z as u64 + 1);
-    } else {
-        number(z as u64);
+pub fn signed<W: Write>(out: &mut W, z: i64) -> io::Result<()> {
+    write!(out, " {z}")
+}
+
+pub fn numbers<W: Write>(out: &mut W, list: &[u32]) -> io::Result<()> {
+    for n in list {
+        number(out, u64::from(*n))?;
     }
-}
-
-pub fn numbers(list: &[u32]) {
-    for i in 0..list.len() {
-        number(list[i] as u64);
-    }
+    Ok(())
 }
 
 // Each longest run of equal bytes as COUNT*BYTE, the byte in hexadecimal.
-pub fn bytes(list: &[u8]) {
+pub fn bytes<W: Write>(out: &mut W, list: &[u8]) -> io::Result<()> {
     let mut from = 0;
     while from < list.len() {
         let end = run_end(list, from);
-        number((end - from) as u64);
-        text(b"*");
-        io::print_hex(STDOUT_FILENO, list[from] as u64, 2);
+        number(out, (end - from) as u64)?;
+        write!(out, "*{:02x}", list[from])?;
         from = end;
     }
+    Ok(())
 }
 
 // Where the run of equal bytes that begins at a place ends.
