@@ -1,4 +1,6 @@
 // What becomes of an event: refused, ignored or handled.
+#![tactic(auto)]
+
 ghost use Rattle.std.specs.Prelude.{◌≡◌, cond, eqb};
 ghost use Rattle.decision.specs.Also.{decided_also};
 ghost use Rattle.decision.specs.Lent.{lent};
