@@ -11,7 +11,7 @@ use Rattle.fault.proofs.Order.{absurd_bool}
 use Rattle.fields.specs.Schema.{Form, Unknown, Bytes, Provers, Verifiers, Bit, form_in, is_unknown, wrong_type}
 use Rattle.fields.specs.Fields.{Marks, is_read, is_unexpected}
 use Rattle.fields.specs.Steps.{hello_marks, plain_marks}
-use Rattle.fields.specs.declared.hello.Marks as hello-marks
+use Rattle.fields.specs.declared.hello.Marks as of_hello_marks
 use Rattle.fields.proofs.FieldSteps.{or_left, is_it}
 use Rattle.fields.proofs.Forms.{known_number, no_message}
 use Rattle.fields.proofs.OneField.{Refuses}
@@ -71,7 +71,7 @@ is_met key k read e = by_tests (eqb key k) read refl e
     by_tests false t p e = absurd_bool (sym e)
 
 -- The same of a test for some messages alone.
-pub is_met_in : (in-message : Bool) (key k : ℕ) (read : Bool) → ((in-message && eqb key k) && not read) ≡ true → (in-message ≡ true) × ((key ≡ k) × (read ≡ false))
+pub is_met_in : (in_message : Bool) (key k : ℕ) (read : Bool) → ((in_message && eqb key k) && not read) ≡ true → (in_message ≡ true) × ((key ≡ k) × (read ≡ false))
 is_met_in true key k read e = (refl, is_met key k read e)
 is_met_in false key k read e = absurd_bool (sym e)
 
@@ -123,7 +123,7 @@ none_refuses message key read none = record {
 }
 
 module _ (key : ℕ) where
-  pub hello_refuses : (read : hello-marks.Marks) →
+  pub hello_refuses : (read : of_hello_marks.Marks) →
       (eqb key 10 && not read.token) ≡ false → (eqb key 18 && not read.provers) ≡ false → (eqb key 26 && not read.verifiers) ≡ false →
       Refuses 1 key (hello_marks read)
       (((eqb (field_number key) 1 && not read.token) || (eqb (field_number key) 2 && not read.provers)) || (eqb (field_number key) 3 && not read.verifiers))

@@ -13,14 +13,14 @@ use Rattle.fields.specs.Contents.{Fits, contents_in, provers_after, verifiers_af
 use Rattle.fields.specs.Fields.{Fields, Marks, Step, Tidy, TidyStep, marks, proceed, seen_in, stage, step_in, stop, view_of, with_mark, with_bytes, with_bit, with_provers, with_verifiers}
 use Rattle.fields.specs.declared.Contents.{Contents}
 use Rattle.fields.specs.declared.plain.Field as plain
-use Rattle.fields.specs.declared.plain.Field.TheVariants as plain-field
+use Rattle.fields.specs.declared.plain.Field.TheVariants as plain_field
 use Rattle.fields.specs.declared.plain.Plain.{Plain}
 use Rattle.fields.specs.declared.plain.Plain.TheVariants as of_plain
 use Rattle.fields.specs.declared.hello.Field as hello
-use Rattle.fields.specs.declared.hello.Field.TheVariants as hello-field
+use Rattle.fields.specs.declared.hello.Field.TheVariants as hello_field
 use Rattle.fields.specs.declared.hello.Hello.{Hello}
-use Rattle.fields.specs.declared.hello.Hello.TheVariants as of-hello
-use Rattle.fields.specs.declared.hello.Marks as hello-marks
+use Rattle.fields.specs.declared.hello.Hello.TheVariants as of_hello
+use Rattle.fields.specs.declared.hello.Marks as of_hello_marks
 
 -- The place after what a field of a form holds.
 abbrev pub after_content : Form → List ℕ → ℕ → ℕ
@@ -45,16 +45,16 @@ pub record FieldStep (number : ℕ) (bytes : List ℕ) (place : ℕ) (f : Fields
 
 -- What a field of a message without lists adds to the fields before it.
 abbrev pub plain_step : plain.Field → Fields → Step
-plain_step (plain-field.Bytes start size) f = proceed (with_bytes start size f) (start + size)
-plain_step (plain-field.Bit bit after) f = proceed (with_bit bit f) after
-plain_step (plain-field.Fault refusal) f = stop refusal
+plain_step (plain_field.Bytes start size) f = proceed (with_bytes start size f) (start + size)
+plain_step (plain_field.Bit bit after) f = proceed (with_bit bit f) after
+plain_step (plain_field.Fault refusal) f = stop refusal
 
 -- What a field of a hello adds.
 abbrev pub hello_step : hello.Field → Fields → Step
-hello_step (hello-field.Token start size) f = proceed (with_bytes start size f) (start + size)
-hello_step (hello-field.Provers count after) f = proceed (with_provers count f) after
-hello_step (hello-field.Verifiers count after) f = proceed (with_verifiers count f) after
-hello_step (hello-field.Fault refusal) f = stop refusal
+hello_step (hello_field.Token start size) f = proceed (with_bytes start size f) (start + size)
+hello_step (hello_field.Provers count after) f = proceed (with_provers count f) after
+hello_step (hello_field.Verifiers count after) f = proceed (with_verifiers count f) after
+hello_step (hello_field.Fault refusal) f = stop refusal
 
 -- What a field of a message without lists holds, whatever was read before it.
 abbrev pub Content : Form → (bytes : List ℕ) (place : ℕ) → (Fields → Step) → Type 0
@@ -84,11 +84,11 @@ PlainKey message key bytes behind_key read r =
     (place : ℕ) → number_at bytes place ≡ value key behind_key → PlainStep message bytes place read r
 
 -- The marks of a hello.
-abbrev pub hello_marks : hello-marks.Marks → Marks
+abbrev pub hello_marks : of_hello_marks.Marks → Marks
 hello_marks read = marks read.token read.provers read.verifiers false
 
 -- One field of a hello.
-abbrev pub HelloStep : (bytes : List ℕ) (place : ℕ) → hello-marks.Marks → (provers verifiers : List ℕ) → hello.Field → (provers' verifiers' : List ℕ) → Type 0
+abbrev pub HelloStep : (bytes : List ℕ) (place : ℕ) → of_hello_marks.Marks → (provers verifiers : List ℕ) → hello.Field → (provers' verifiers' : List ℕ) → Type 0
 HelloStep bytes place read provers verifiers r provers' verifiers' =
     (f : Fields) → f.read ≡ hello_marks read → FieldStep 1 bytes place f provers verifiers (hello_step r f) provers' verifiers'
 
@@ -104,14 +104,14 @@ plain_in number (of_plain.Fault refusal) = refused (refusal_number refusal)
 
 -- The hello that the fields and the two lists are.
 abbrev pub hello_in : Hello → (provers verifiers : List ℕ) → Reading Message
-hello_in (of-hello.Read held) provers verifiers =
+hello_in (of_hello.Read held) provers verifiers =
     read_as (made 1 held.place held.size 0 (entries held.provers provers) (entries held.verifiers verifiers))
-hello_in (of-hello.Fault refusal) provers verifiers = refused (refusal_number refusal)
+hello_in (of_hello.Fault refusal) provers verifiers = refused (refusal_number refusal)
 
 -- The lists hold the suites that were counted.
 abbrev pub HelloCounts : Hello → (provers verifiers : List ℕ) → Type 0
-HelloCounts (of-hello.Read held) provers verifiers = Holds held.provers provers × Holds held.verifiers verifiers
-HelloCounts (of-hello.Fault refusal) provers verifiers = Unit {0}
+HelloCounts (of_hello.Read held) provers verifiers = Holds held.provers provers × Holds held.verifiers verifiers
+HelloCounts (of_hello.Fault refusal) provers verifiers = Unit {0}
 
 -- The fields of a message that stands in lent bytes, with what follows it.
 unfoldable pub inner_of : (number : ℕ) (bytes : List ℕ) (start size : ℕ) → Reading Message

@@ -19,7 +19,7 @@ pub enum Field {
 }
 
 // Which fields have been read.
-#[derive(Drop)]
+#[derive(Clone, Copy)]
 pub struct Marks {
     pub token: bool,
     pub provers: bool,
@@ -115,8 +115,8 @@ fn read_hello(
     verifiers: &mut [u32; 16],
 ) -> Hello
     requires { (provers.old ≡ padded []) × (verifiers.old ≡ padded []) }
-    ensures verifiers_after { hello_in result provers.new verifiers.new ≡ fields_of 1 bytes.now start }
-    ensures hello_counts { HelloCounts result provers.new verifiers.new }
+    ensures reads { hello_in result provers.new verifiers.new ≡ fields_of 1 bytes.now start }
+    ensures counts { HelloCounts result provers.new verifiers.new }
 {
     let mut read = NOTHING_READ;
     let mut held = NOTHING_HELD;

@@ -1,4 +1,6 @@
 // The messages of our schema, read field by field.
+#![tactic(auto)]
+
 ghost use Rattle.std.specs.Prelude.{◌≡◌};
 ghost use Rattle.fields.specs.Contents.{Fits, contents_in, provers_after, verifiers_after};
 ghost use Rattle.fields.specs.Message.{reading_at};
@@ -48,9 +50,9 @@ pub fn read_at(
     provers: &mut [u32; 16],
     verifiers: &mut [u32; 16],
 ) -> Contents
-    ensures verifiers_after { contents_in result provers.new verifiers.new ≡ reading_at message bytes.now place }
-    ensures provers_after { provers.new ≡ provers_after (reading_at message bytes.now place) provers.old }
-    ensures verifiers_after_2 { verifiers.new ≡ verifiers_after (reading_at message bytes.now place) verifiers.old }
+    ensures reads { contents_in result provers.new verifiers.new ≡ reading_at message bytes.now place }
+    ensures provers_left { provers.new ≡ provers_after (reading_at message bytes.now place) provers.old }
+    ensures verifiers_left { verifiers.new ≡ verifiers_after (reading_at message bytes.now place) verifiers.old }
     ensures fits { Fits message result }
 {
     let part = block_at(bytes, place);

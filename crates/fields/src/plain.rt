@@ -78,7 +78,7 @@ fn data_field(key: u32, bytes: &[u8], next: usize, bytes_read: bool, bit_read: b
 // A field of a message above DATA: ACK has a bit, and no other number is a message's.
 fn ack_field(message: u32, key: u32, bytes: &[u8], next: usize, bit_read: bool) -> Field
     requires { 9 ≤ message }
-    ensures { (bytes-read : Bool) → PlainKey message key bytes.now next (plain_marks bytes-read bit_read) result }
+    ensures { (bytes_read : Bool) → PlainKey message key bytes.now next (plain_marks bytes_read bit_read) result }
 {
     let is_ack = message == schema::ACK;
     if is_ack & (key == keys::ACK_BIT) & !bit_read {
@@ -140,8 +140,8 @@ fn read_plain(message: u32, bytes: &[u8], start: usize) -> Plain
 
 // A message without lists in lent bytes. Any byte after it is refused.
 pub(crate) fn plain_in(message: u32, bytes: &[u8], start: usize, size: usize) -> Contents
-    requires fact { message ≡ 1 → ⊥ }
-    requires size_in_bounds { start + size ≤ length bytes.now }
+    requires not_hello { message ≡ 1 → ⊥ }
+    requires within { start + size ≤ length bytes.now }
     ensures { ReadsPlain message result (inner_of message bytes.now start size) }
 {
     let end = start + size;

@@ -61,11 +61,11 @@ fn flat_of(contents: Contents) -> FlatMessage
 // Reads one message. The suites of a hello are written to the two lists, followed by zeros; for any other message, and
 // for bytes that are refused, both keep their entries.
 pub fn read_flat(bytes: &[u8], provers: &mut [u32; 16], verifiers: &mut [u32; 16]) -> FlatMessage
-    ensures value { result ≡ flat_in (reading_of bytes.now) }
-    ensures provers_after { provers.new ≡ provers_after (reading_of bytes.now) provers.old }
-    ensures verifiers_after { verifiers.new ≡ verifiers_after (reading_of bytes.now) verifiers.old }
-    ensures verifiers_after_2 { reading_by result provers.new verifiers.new ≡ reading_of bytes.now }
-    ensures provers_bound { (result.provers ≤ 16) × (result.verifiers ≤ 16) }
+    ensures numbers { result ≡ flat_in (reading_of bytes.now) }
+    ensures provers_left { provers.new ≡ provers_after (reading_of bytes.now) provers.old }
+    ensures verifiers_left { verifiers.new ≡ verifiers_after (reading_of bytes.now) verifiers.old }
+    ensures says { reading_by result provers.new verifiers.new ≡ reading_of bytes.now }
+    ensures counts { (result.provers ≤ 16) × (result.verifiers ≤ 16) }
     ensures known { Known result }
 {
     flat_of(contents_of(bytes, provers, verifiers))

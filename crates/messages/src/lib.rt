@@ -1,4 +1,6 @@
 // A reader of the peer's messages: one message of our schema from lent bytes.
+#![tactic(auto)]
+
 ghost use Rattle.std.specs.Prelude.{◌≡◌};
 ghost use Rattle.fields.specs.Contents.{provers_after, verifiers_after};
 ghost use Rattle.messages.specs.Outer.{reading_of};
@@ -68,9 +70,9 @@ fn message_of(contents: Contents) -> Message
 
 // Reads one message, as `read_flat` does, and answers with an enum.
 pub fn read(bytes: &[u8], provers: &mut [u32; 16], verifiers: &mut [u32; 16]) -> Message
-    ensures verifiers_after { reading_in result provers.new verifiers.new ≡ reading_of bytes.now }
-    ensures provers_after { provers.new ≡ provers_after (reading_of bytes.now) provers.old }
-    ensures verifiers_after_2 { verifiers.new ≡ verifiers_after (reading_of bytes.now) verifiers.old }
+    ensures reads { reading_in result provers.new verifiers.new ≡ reading_of bytes.now }
+    ensures provers_left { provers.new ≡ provers_after (reading_of bytes.now) provers.old }
+    ensures verifiers_left { verifiers.new ≡ verifiers_after (reading_of bytes.now) verifiers.old }
     ensures counts_fit { CountsFit result }
 {
     message_of(contents_of(bytes, provers, verifiers))

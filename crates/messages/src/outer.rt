@@ -48,10 +48,10 @@ pub(crate) fn contents_of(
     provers: &mut [u32; 16],
     verifiers: &mut [u32; 16],
 ) -> Contents
-    ensures verifiers_after { contents_in result provers.new verifiers.new ≡ reading_of bytes.now }
-    ensures provers_after { provers.new ≡ provers_after (reading_of bytes.now) provers.old }
-    ensures verifiers_after_2 { verifiers.new ≡ verifiers_after (reading_of bytes.now) verifiers.old }
-    ensures known_contents { KnownContents result }
+    ensures reads { contents_in result provers.new verifiers.new ≡ reading_of bytes.now }
+    ensures provers_left { provers.new ≡ provers_after (reading_of bytes.now) provers.old }
+    ensures verifiers_left { verifiers.new ≡ verifiers_after (reading_of bytes.now) verifiers.old }
+    ensures known { KnownContents result }
 {
     let found = outer_field(bytes);
     match found {

@@ -1,0 +1,21 @@
+use Rattle.std.proofs.Common.{refl, ap, ◌∙◌}
+use Rattle.fields.specs.Schema.{Bytes}
+use Rattle.fields.specs.Fields.{is_read}
+use Rattle.fields.specs.Steps.{plain_marks}
+use Rattle.fields.proofs.FittingKeys.{has_bytes, has_part, is_met_in, part_refuses}
+use Rattle.fields.proofs.OneField.{key_met, key_refused}
+use Rattle.fields.proofs.plain.part_field.Goals as goal
+
+pub returns-then-has_part-key : goal.returns-then-has_part-key
+returns-then-has_part-key c =
+    let a = c.args in
+    let t = is_met_in (has_part a.message) a.key 10 a.bytes_read c.if-has_part-key.true in
+    λ bit place e f m provers verifiers.
+    key_met a.message a.bytes.now place f provers verifiers _ _ e 10 t.1.0 Bytes (has_bytes a.message t.0) refl refl (ap (is_read Bytes) m ∙ t.1.1) _ _ _ (c.bytes_at.ensures f provers verifiers)
+
+pub returns : goal.returns
+returns c =
+    let a = c.args in
+    λ bit place e f m provers verifiers.
+    key_refused a.message a.bytes.now place f provers verifiers _ _ e (plain_marks a.bytes_read bit) m
+    _ (part_refuses a.key a.message a.bytes_read bit c.requires.0 c.requires.1 c.if-has_part-key.false) _ c.misfit.ensures
