@@ -1,14 +1,12 @@
 -- When a call writes the cache, and that there is room for the block.
 -- Assumes nothing.
 use mathlib.Core.Path.{◌≡◌, refl, subst⁻¹}
-use mathlib.Core.List.{List, [], ◌∷◌}
+use mathlib.Core.List.{List}
 use Prim.Native.Nat.{ℕ, ◌≤◌}
 use native.Mathlib.Omega.{arith}
 use lib.Dec.{T}
 use lib.ListN.{length}
 use borrow.Author.Tests.{eq-eqb, ne_eqb}
-use denote.Enum.Declared.{tag_of}
-use types.Run.{OneOf, miss}
 use Rattle.protocol.specs.Block.{stored}
 use Rattle.event.specs.Call.{Call, carries_payload}
 use Rattle.record.specs.Limits.{Limits}
@@ -16,7 +14,6 @@ use Rattle.protocol.specs.Step.{step_of, cache_after}
 use Rattle.protocol.specs.declared.Answer.{Answer}
 use Rattle.protocol.specs.declared.Answer.TheVariants.{Handled, Ignored, Refused}
 use Rattle.record.specs.declared.Connection.{Connection}
-use Rattle.protocol.specs.contracts.Answer.{the_type}
 use Rattle.protocol.proofs.Stepped.{handled_unrefused}
 
 -- The payload of a handled event 2 fits in the cache.
@@ -29,8 +26,8 @@ room_for limits connection call cache e two =
 
 -- The cache after a call that is not handled, a handled event 2, and another handled event.
 module _ (call : Call) (cache : List ℕ) where
-  pub kept : (x : Answer) → OneOf (1 ∷ 2 ∷ []) (tag_of the_type x) → cache ≡ cache_after x call cache
-  kept Handled o = absurd (miss (1 ∷ 2 ∷ []) 0 tt o)
+  pub kept : (x : Answer) → (x ≡ Handled → ⊥) → cache ≡ cache_after x call cache
+  kept Handled o = absurd (o refl)
   kept Ignored o = refl
   kept (Refused n) o = refl
 

@@ -2,6 +2,8 @@
 //
 // The host runs sockets, timers, attestation drivers and the check of a token's signature. It hands
 // in what happened, and carries out the actions that it gets back.
+#![tactic(auto)]
+
 ghost use Rattle.std.specs.Prelude.{◌≡◌, ◌≤◌, length};
 ghost use Rattle.record.specs.Limits.{limits};
 ghost use Rattle.event.specs.Call.{call_of};
