@@ -1,5 +1,5 @@
 -- The verdict on a token is a number, and one that is neither 0 nor 1 is refused.
-use Rattle.std.specs.Prelude.{ℕ, Bool, ◌&&◌, cond, [], ◌∷◌, eqb, ltb}
+use Rattle.std.specs.Prelude.{ℕ, Bool, ◌&&◌, cond, [], ◌∷◌, ltb}
 use Rattle.table.specs.Sets.{is_in}
 use Rattle.interface.specs.declared.FlatEvent.{FlatEvent}
 

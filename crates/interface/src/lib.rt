@@ -1,5 +1,7 @@
 // What hosts in C hand over and get, as numbers: events with a verdict that is a number, answers, seconds left and the
 // suite choice.
+#![tactic(auto)]
+
 ghost use Rattle.std.specs.Prelude.{◌≡◌};
 ghost use Rattle.interface.specs.Event.{event_of, flat_event_with};
 ghost use Rattle.interface.specs.Verdict.{refused_as, wrong_verdict};
@@ -19,7 +21,7 @@ const WRONG_VERDICT: u32 = 41;
 
 // An event as a host in C hands it over: `Event` with the verdict as a number.
 #[repr(C)]
-#[derive(Drop)]
+#[derive(Clone, Copy)]
 pub struct FlatEvent {
     pub code: u32,
     pub tag: u32,
@@ -33,7 +35,7 @@ pub struct FlatEvent {
 
 // What a host says of a token, with its verdict as a number.
 #[repr(C)]
-#[derive(Drop)]
+#[derive(Clone, Copy)]
 pub struct FlatToken {
     pub verdict: u32,
     pub margin: u32,
