@@ -1,4 +1,6 @@
 // The event that a message of the peer is.
+#![tactic(auto)]
+
 ghost use Rattle.std.specs.Prelude.{◌≡◌};
 ghost use Rattle.arrival.specs.Arrival.{also_of, code_of, event_of, event_with};
 
@@ -12,7 +14,7 @@ const NO_EVENT: u32 = 24;
 
 // What the host says of a token: its verdict on the signature, how many seconds before its expiry it counts as spent,
 // when it expires and the time now, in seconds.
-#[derive(Drop)]
+#[derive(Clone, Copy)]
 pub struct Token {
     pub verdict: bool,
     pub margin: u32,

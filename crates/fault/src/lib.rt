@@ -7,7 +7,7 @@ ghost use Rattle.fault.specs.Refusals.{refusal_number};
 pub mod refusals;
 
 // A refusal; the numbers are in `refusals`.
-#[derive(Drop)]
+#[derive(Clone, Copy)]
 pub enum Refusal {
     EndsTooSoon,
     UnexpectedField,

@@ -10,7 +10,7 @@ use fault::Refusal;
 use wire::{Block, Packed, Varint, block_at, number, packed_at};
 
 // What one field holds: a token, by place and length, or so many suites with the place after them.
-#[derive(Drop)]
+#[derive(Clone, Copy)]
 pub enum Field {
     Token(usize, usize),
     Provers(usize, usize),
@@ -39,7 +39,7 @@ const NOTHING_HELD: Held = Held {
     verifiers: 0,
 };
 
-#[derive(Drop)]
+#[derive(Clone, Copy)]
 pub enum Hello {
     Read(Held),
     Fault(Refusal),

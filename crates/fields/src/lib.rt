@@ -16,14 +16,14 @@ use fault::Refusal;
 use wire::{Block, block_at};
 
 // Where bytes lie in those that were lent. An absent field lies at 0 and has none.
-#[derive(Drop)]
+#[derive(Clone, Copy)]
 pub struct Span {
     pub place: usize,
     pub size: usize,
 }
 
 // What a HELLO holds: where its token lies, and how many suites each list has.
-#[derive(Drop)]
+#[derive(Clone, Copy)]
 pub struct Held {
     pub place: usize,
     pub size: usize,
@@ -33,7 +33,7 @@ pub struct Held {
 
 // What a message holds, or why its bytes are refused. The suites of a HELLO stand in the lists that the caller lends;
 // any other message has a number, bytes and a bit.
-#[derive(Drop)]
+#[derive(Clone, Copy)]
 pub enum Contents {
     Hello(Held),
     Plain(u32, Span, u32),

@@ -9,7 +9,7 @@ use fault::Refusal;
 use wire::{Block, Varint, bit, block_at, number};
 
 // What one field holds: bytes, by place and length, or a bit with the place after it.
-#[derive(Drop)]
+#[derive(Clone, Copy)]
 pub enum Field {
     Bytes(usize, usize),
     Bit(u32, usize),
@@ -17,7 +17,7 @@ pub enum Field {
 }
 
 // What all fields hold.
-#[derive(Drop)]
+#[derive(Clone, Copy)]
 pub enum Plain {
     Read { part: Span, bit: u32 },
     Fault(Refusal),

@@ -11,7 +11,7 @@ use flat::slots_of;
 use messages::{Span, part, read_flat};
 
 // The answer, and where the token or payload lies in the bytes.
-#[derive(Drop)]
+#[derive(Clone, Copy)]
 pub struct Receipt {
     pub answer: Answer,
     pub place: usize,

@@ -12,7 +12,7 @@ use fields::{Contents, schema};
 // A refusal's number, 0 for none, and then the message's number, its bit, how many suites, and where the token or payload
 // lies. What a message does not carry is 0; where the bytes are refused, all but the refusal is.
 #[repr(C)]
-#[derive(Drop)]
+#[derive(Clone, Copy)]
 pub struct FlatMessage {
     pub refusal: u32,
     pub number: u32,

@@ -17,7 +17,7 @@ use fields::Contents;
 pub use fields::{Span, schema};
 
 // A message, or why there is none. The suites of a hello stand in the lists that the caller lends.
-#[derive(Drop)]
+#[derive(Clone, Copy)]
 pub enum Message {
     Hello {
         token: Span,

@@ -14,7 +14,7 @@ const FIRST_KEY: u32 = schema::HELLO * schema::WIRE_TYPES;
 const PAST_KEYS: u32 = (schema::ACK + 1) * schema::WIRE_TYPES;
 
 // Which message the field holds, and where its length stands.
-#[derive(Drop)]
+#[derive(Clone, Copy)]
 pub enum Outer {
     Message(u32, usize),
     Fault(Refusal),

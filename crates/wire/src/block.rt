@@ -7,7 +7,7 @@ use crate::varint::{Varint, number};
 use fault::Refusal;
 
 // Where its bytes begin, and how many they are.
-#[derive(Drop)]
+#[derive(Clone, Copy)]
 pub enum Block {
     Bytes(usize, usize),
     Fault(Refusal),

@@ -11,7 +11,7 @@ use fault::Refusal;
 const MAX_ENTRIES: usize = 16;
 
 // How many suites were read, with the place after the list.
-#[derive(Drop)]
+#[derive(Clone, Copy)]
 pub enum Packed {
     Suites(usize, usize),
     Fault(Refusal),

@@ -23,7 +23,7 @@ const LARGEST_TENTH: u8 = 0;
 const SHORT_WIDTH: usize = 5;
 
 // A number with the place after it.
-#[derive(Drop)]
+#[derive(Clone, Copy)]
 pub enum Varint {
     Number(u32, usize),
     Fault(Refusal),
@@ -31,7 +31,7 @@ pub enum Varint {
 
 // What the first bytes say: a value, and how many of them say it; they end too soon; or each of them announces more, with
 // what they say so far.
-#[derive(Drop)]
+#[derive(Clone, Copy)]
 enum Said {
     Value(u64, usize),
     Cut,
