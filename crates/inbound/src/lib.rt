@@ -1,4 +1,6 @@
 // A message that arrived, given to the step. The host hands over the bytes, what it says of the token, and its own lists.
+#![tactic(auto)]
+
 ghost use Rattle.std.specs.Prelude.{◌≡◌};
 ghost use Rattle.flat.specs.Flat.{record_in, slots_of};
 ghost use Rattle.messages.specs.Outer.{reading_of};
