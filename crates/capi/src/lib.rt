@@ -2,6 +2,8 @@
 //
 // Record, actions and choice are lent as numbers in a fixed order; the header `menhotrac.h` names them. The host owns
 // all memory, and the library keeps none of it.
+#![tactic(auto)]
+
 ghost use Rattle.std.specs.Prelude.{◌≡◌, ◌+◌, ◌≤◌, length};
 ghost use Rattle.capi.specs.Part.{Within, part_in};
 ghost use Rattle.capi.specs.Returned.{returned};
@@ -25,21 +27,14 @@ use suites::choose;
 use token::seconds_left;
 
 // The record of a new connection.
-#[unsafe(no_mangle)]
-pub extern "C" fn menhotrac_fresh(connection: &mut [u32; 12])
+pub fn menhotrac_fresh(connection: &mut [u32; 12])
     ensures { connection.new ≡ numbers_of spec.fresh }
 {
     *connection = numbers_of(fresh());
 }
 
 // Seconds left at a time, asked alone: the refusal, and the seconds.
-#[unsafe(no_mangle)]
-pub extern "C" fn menhotrac_seconds_left(
-    expiry: i64,
-    at: i64,
-    margin: u32,
-    seconds: &mut i64,
-) -> u32
+pub fn menhotrac_seconds_left(expiry: i64, at: i64, margin: u32, seconds: &mut i64) -> u32
     ensures value { result ≡ (time_left expiry at margin).refusal }
     ensures seconds_after { seconds.new ≡ (time_left expiry at margin).seconds }
 {
@@ -49,8 +44,7 @@ pub extern "C" fn menhotrac_seconds_left(
 }
 
 // The suite choice, asked alone: the refusal, and both suites with whether they were found.
-#[unsafe(no_mangle)]
-pub extern "C" fn menhotrac_choose_suites(
+pub fn menhotrac_choose_suites(
     our_verifiers: &[u32],
     peer_provers: &[u32],
     peer_verifiers: &[u32],
@@ -67,8 +61,7 @@ pub extern "C" fn menhotrac_choose_suites(
 
 // One step. It changes the record and writes the actions; a handled `UPPER_SEND_DATA` writes the cache. The payload part
 // is the one that the slots name, and lies within its slice.
-#[unsafe(no_mangle)]
-pub extern "C" fn menhotrac_step(
+pub fn menhotrac_step(
     connection: &mut [u32; 12],
     event: FlatEvent,
     payload: &[u8],
@@ -84,7 +77,7 @@ pub extern "C" fn menhotrac_step(
     ensures actions_after { actions.new ≡ (returned connection.old event payload.now cache.old our_verifiers.now peer_provers.now peer_verifiers.now our_provers.now).actions }
     ensures cache_after { cache.new ≡ (returned connection.old event payload.now cache.old our_verifiers.now peer_provers.now peer_verifiers.now our_provers.now).cache }
     ensures within { Within actions.new payload.now cache.new }
-    ensures cache_after_2 { part_in actions.new payload.now cache.new ≡ (returned connection.old event payload.now cache.old our_verifiers.now peer_provers.now peer_verifiers.now our_provers.now).part }
+    ensures part_value { part_in actions.new payload.now cache.new ≡ (returned connection.old event payload.now cache.old our_verifiers.now peer_provers.now peer_verifiers.now our_provers.now).part }
 {
     let answer = step_flat(
         connection,
@@ -103,25 +96,23 @@ pub extern "C" fn menhotrac_step(
 
 // Reads one message. A hello's suites are written to the two lists, followed by zeros; for any other message, and for bytes
 // that are refused, both keep their entries.
-#[unsafe(no_mangle)]
-pub extern "C" fn menhotrac_read(
+pub fn menhotrac_read(
     bytes: &[u8],
     provers: &mut [u32; 16],
     verifiers: &mut [u32; 16],
 ) -> FlatMessage
     ensures value { result ≡ flat_in (reading_of bytes.now) }
-    ensures provers_after { provers.new ≡ provers_after (reading_of bytes.now) provers.old }
-    ensures verifiers_after { verifiers.new ≡ verifiers_after (reading_of bytes.now) verifiers.old }
-    ensures verifiers_after_2 { reading_by result provers.new verifiers.new ≡ reading_of bytes.now }
-    ensures provers_bound { (result.provers ≤ 16) × (result.verifiers ≤ 16) }
-    ensures size_in_bounds { result.place + result.size ≤ length bytes.now }
+    ensures provers_left { provers.new ≡ provers_after (reading_of bytes.now) provers.old }
+    ensures verifiers_left { verifiers.new ≡ verifiers_after (reading_of bytes.now) verifiers.old }
+    ensures says { reading_by result provers.new verifiers.new ≡ reading_of bytes.now }
+    ensures counts { (result.provers ≤ 16) × (result.verifiers ≤ 16) }
+    ensures lies { result.place + result.size ≤ length bytes.now }
 {
     read_flat(bytes, provers, verifiers)
 }
 
 // The event that a message is, by its number and bit, with what the host says of the token.
-#[unsafe(no_mangle)]
-pub extern "C" fn menhotrac_event_of(number: u32, bit: u32, token: FlatToken) -> FlatEvent
+pub fn menhotrac_event_of(number: u32, bit: u32, token: FlatToken) -> FlatEvent
     ensures { result ≡ flat_event_with (code_of number) bit token }
 {
     event_in(code_of(number), bit, token)
