@@ -83,12 +83,12 @@ shown connection held lent (call ∷ calls) (g ∷ more) r k a p =
     (h, shown result.outcome.connection result.cache (lent_by g) calls more h.record_left h.cache_left a.1 p.1)
 
 -- A host in C that began with a fresh record.
-module _ (lent : Lent) (calls : List FlatCall) (got : List Got) (began : record_in lent.numbers ≡ fresh) (right-verdicts : AllRight calls) (promised : AllPromised lent calls got) where
+module _ (lent : Lent) (calls : List FlatCall) (got : List Got) (began : record_in lent.numbers ≡ fresh) (right_verdicts : AllRight calls) (promised : AllPromised lent calls got) where
   abbrev results : List Result
   results = results_of limits fresh lent.cache (calls_in calls)
 
   shows : AllShow got results
-  shows = shown fresh lent.cache lent calls got began refl right-verdicts promised
+  shows = shown fresh lent.cache lent calls got began refl right_verdicts promised
 
   -- What it got are the numbers of results that agree with the history.
   pub c_host_agrees : AllShow got results × AllAgree limits (length lent.cache) (calls_in calls) results

@@ -17,10 +17,10 @@ use Rattle.protocol.proofs.Decided.{number_is}
 use Rattle.connection.specs.Also.{result_also}
 use Rattle.connection.proofs.Also.{none_also}
 
-module _ (connection : Connection) (call : Call) (cache : List ℕ) (first : List ℕ) (are-its : first ≡ numbers_of connection) where
+module _ (connection : Connection) (call : Call) (cache : List ℕ) (first : List ℕ) (are_its : first ≡ numbers_of connection) where
   -- No interface refuses, and the numbers are the record's.
   is_result : result_also 0 (record_in first) call cache ≡ result_of limits connection call cache
-  is_result = ap (λ (l : List ℕ). result_also 0 (record_in l) call cache) are-its ∙ none_also connection call cache
+  is_result = ap (λ (l : List ℕ). result_also 0 (record_in l) call cache) are_its ∙ none_also connection call cache
 
   module _ (answer : Answer) (numbers slots after : List ℕ)
       (got : (answer ≡ (result_also 0 (record_in first) call cache).outcome.answer) × ((record_in numbers ≡ (result_also 0 (record_in first) call cache).outcome.connection) × ((slots ≡ slots_of (result_also 0 (record_in first) call cache).outcome.actions) × (after ≡ (result_also 0 (record_in first) call cache).cache)))) where

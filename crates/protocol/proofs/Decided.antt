@@ -39,12 +39,12 @@ module _ (limits : Limits) (connection : Connection) (code : ℕ) (input : Input
   unfolding decided
   decided_by_lem = rw refusal_by
 
-  module _ (lower to : ℕ) (full : Bool) (is-lower : lower ≡ first_fault 1 lower_faults) (is-next : to ≡ next_state connection code input) (is-full : eqb connection.handled limits.handled ≡ full) where
+  module _ (lower to : ℕ) (full : Bool) (is_lower : lower ≡ first_fault 1 lower_faults) (is_next : to ≡ next_state connection code input) (is_full : eqb connection.handled limits.handled ≡ full) where
     as_judged : judged lower to full ≡ decided limits connection code input
     as_judged =
-        ap (λ (l : ℕ). judged l to full) is-lower ∙
-        ap (λ (t : ℕ). judged (first_fault 1 lower_faults) t full) is-next ∙
-        ap (λ (f : Bool). judged (first_fault 1 lower_faults) (next_state connection code input) f) (sym is-full) ∙
+        ap (λ (l : ℕ). judged l to full) is_lower ∙
+        ap (λ (t : ℕ). judged (first_fault 1 lower_faults) t full) is_next ∙
+        ap (λ (f : Bool). judged (first_fault 1 lower_faults) (next_state connection code input) f) (sym is_full) ∙
         sym decided_by_lem
 
     pub refused : eqb lower 0 ≡ false → unchanged (Refused lower) connection ≡ decided limits connection code input

@@ -1,7 +1,7 @@
 // Lines of input, and numbers and bytes on an output.
 #![tactic(auto)]
 
-ghost use Rattle.std.specs.Prelude.{◌≤◌, IfOk, length};
+ghost use Rattle.std.specs.Prelude.{◌≡◌, ◌≤◌, IfOk, OnErr, length};
 
 pub mod print;
 
@@ -49,9 +49,10 @@ fn line_in(line: &[u8], size: usize, is_missing: bool) -> Line
 }
 
 // Reads the next line into a buffer, without its newline. A line that is longer than the buffer is read to its end.
-// Nothing says that a line ends, so its bytes are counted.
+// Nothing says that a line ends, so its bytes are counted. Where a read fails, the buffer may hold a part of the line.
 pub fn read_line<R: Read>(input: &mut R, line: &mut [u8]) -> io::Result<Line>
-    ensures { IfOk result (λ found. found.len ≤ length line.new) }
+    ensures found { IfOk result (λ found. found.len ≤ length line.new) }
+    ensures failed { OnErr result (length line.new ≡ length line.old) }
 {
     let mut size: usize = 0;
     while size < usize::MAX {
