@@ -8,7 +8,7 @@
  *
  * Building a host, at the root of the repository:
  *
- *     rt staticlib capi
+ *     tools/archive
  *     cc -std=c11 -O2 -I host/c -o my_host my_host.c target/staticlib/libcapi.a
  *
  * boot.c beside this header is a small host; receive.c shows how one receives messages.

@@ -11,7 +11,7 @@ fn main() {
     let archive = folder.join("libcapi.a");
     if !archive.is_file() {
         panic!(
-            "{} is not there: run `rt staticlib capi` at the root of the repository, or set MENHOTRAC_LIB_DIR to the archive's folder",
+            "{} is not there: run `tools/archive` at the root of the repository, or set MENHOTRAC_LIB_DIR to the archive's folder",
             archive.display()
         );
     }
