@@ -33,11 +33,11 @@ Fits payload result = result.outcome.actions.payload_len ≤ length (slice_by re
 
 -- The length that is named, by code, with the payload and the cache before the call.
 module _ (payload cache : List ℕ) (cached plen : ℕ) where
-  abbrev slice-after : ℕ → ℕ → List ℕ
-  slice-after k slice = slice_by slice payload (cond (eqb k 2) (stored payload cache) cache)
+  abbrev slice_after : ℕ → ℕ → List ℕ
+  slice_after k slice = slice_by slice payload (cond (eqb k 2) (stored payload cache) cache)
 
   abbrev FitsAt : ℕ → Type 0
-  FitsAt k = length_of k cached plen ≤ length (slice-after k (source_of k))
+  FitsAt k = length_of k cached plen ≤ length (slice_after k (source_of k))
 
   fits_at : cached ≤ length cache → (k : ℕ) (repeats carries : Bool) → eqb k 23 ≡ repeats → carries_payload k ≡ carries → (T (carries_payload k) → plen ≡ length payload) → FitsAt k
   fits_at short k true c r e is = subst⁻¹ FitsAt (eqb-true k 23 r) short
@@ -50,7 +50,7 @@ module _ (payload cache : List ℕ) (cached plen : ℕ) where
   fits_at short k false false r e is = rw (r, e) (omega arith)
 
   -- An event that locks names nothing.
-  unless_locked : (k : ℕ) (locks : Bool) → FitsAt k → cond locks 0 (length_of k cached plen) ≤ length (slice-after k (cond locks order.none (source_of k)))
+  unless_locked : (k : ℕ) (locks : Bool) → FitsAt k → cond locks 0 (length_of k cached plen) ≤ length (slice_after k (cond locks order.none (source_of k)))
   unless_locked k true f = omega arith
   unless_locked k false f = f
 

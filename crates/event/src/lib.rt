@@ -7,9 +7,9 @@ ghost use Rattle.record.specs.Limits.{limits};
 ghost use Rattle.event.specs.Kind.{kind_of, fields_of};
 ghost use Rattle.event.specs.Call.{chosen_suites, suites_of, carries_payload, short_length, input_by};
 ghost use Rattle.event.specs.TimeoutTag.{timeout_tag};
-ghost use Rattle.suites.specs.Numbers.{found_of, answer_of};
+ghost use Rattle.suites.specs.Numbers.{answer_of};
 
-use suites::{Choice, Common, any_too_long, choose};
+use suites::{Choice, any_too_long, choose, is_found, number_in};
 use table::codes::{
     ACK_TIMEOUT, DAT_TIMEOUT, HANDSHAKE_TIMEOUT, RA_PROVER_MSG, RA_VERIFIER_MSG, RA_VERIFIER_OK,
     SC_ACK, SC_DAT, SC_DATA, SC_HELLO, SC_RA_PROVER, SC_RA_VERIFIER, UPPER_SEND_DATA,
@@ -218,24 +218,6 @@ fn suites_in(too_long: bool, choice: Choice) -> Suites
         verifier: number_in(verifier),
         prover: number_in(prover),
     }
-}
-
-fn is_found(common: Common) -> bool
-    ensures { result ≡ (found_of common).found }
-{
-    let Common::Suite(_) = common else {
-        return false;
-    };
-    true
-}
-
-fn number_in(common: Common) -> u32
-    ensures { result ≡ (found_of common).suite }
-{
-    let Common::Suite(number) = common else {
-        return 0;
-    };
-    number
 }
 
 // Nested as the list of the definition is.

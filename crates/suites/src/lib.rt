@@ -40,6 +40,26 @@ pub fn choose(
     }
 }
 
+// Whether a suite was found.
+pub fn is_found(common: Common) -> bool
+    ensures { result ≡ (found_of common).found }
+{
+    let Common::Suite(_) = common else {
+        return false;
+    };
+    true
+}
+
+// Its number, 0 if none was found.
+pub fn number_in(common: Common) -> u32
+    ensures { result ≡ (found_of common).suite }
+{
+    let Common::Suite(number) = common else {
+        return 0;
+    };
+    number
+}
+
 // Whether a list has more than 16 entries, which is the fault of refusal 6.
 pub fn any_too_long(
     our_verifiers: &[u32],
