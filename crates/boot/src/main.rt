@@ -15,29 +15,11 @@ fn main(rt: HostRuntime) -> io::Result<()> {
 
 fn run<W: Write>(out: &mut W) -> io::Result<()> {
     let mut cache = [0u8; 4096];
-    let greeted = call(
-        out,
-        fresh(),
-        event(codes::UPPER_START_HANDSHAKE, 0),
-        &[],
-        &mut cache,
-    )?;
-    let opened = call(out, greeted, event(codes::SC_HELLO, 0), &[], &mut cache)?;
-    let proved = call(out, opened, event(codes::RA_PROVER_OK, 2), &[], &mut cache)?;
-    let ignored = call(
-        out,
-        proved,
-        event(codes::RA_VERIFIER_OK, 1),
-        &[],
-        &mut cache,
-    )?;
-    let established = call(
-        out,
-        ignored,
-        event(codes::RA_VERIFIER_OK, 2),
-        &[],
-        &mut cache,
-    )?;
+    let greeted = without_payload(out, fresh(), codes::UPPER_START_HANDSHAKE, 0, &mut cache)?;
+    let opened = without_payload(out, greeted, codes::SC_HELLO, 0, &mut cache)?;
+    let proved = without_payload(out, opened, codes::RA_PROVER_OK, 2, &mut cache)?;
+    let ignored = without_payload(out, proved, codes::RA_VERIFIER_OK, 1, &mut cache)?;
+    let established = without_payload(out, ignored, codes::RA_VERIFIER_OK, 2, &mut cache)?;
     let block = [1u8, 2, 3, 4, 5];
     let sent = call(
         out,
@@ -46,17 +28,21 @@ fn run<W: Write>(out: &mut W) -> io::Result<()> {
         &block,
         &mut cache,
     )?;
-    let proving = call(out, sent, event(codes::SC_RE_RA, 0), &[], &mut cache)?;
-    let ignored = call(out, proving, event(codes::RA_PROVER_OK, 2), &[], &mut cache)?;
-    let acknowledged = call(out, ignored, event(codes::SC_ACK, 0), &[], &mut cache)?;
-    call(
-        out,
-        acknowledged,
-        event(codes::RA_PROVER_OK, 6),
-        &[],
-        &mut cache,
-    )?;
+    let proving = without_payload(out, sent, codes::SC_RE_RA, 0, &mut cache)?;
+    let ignored = without_payload(out, proving, codes::RA_PROVER_OK, 2, &mut cache)?;
+    let acknowledged = without_payload(out, ignored, codes::SC_ACK, 0, &mut cache)?;
+    without_payload(out, acknowledged, codes::RA_PROVER_OK, 6, &mut cache)?;
     Ok(())
+}
+
+fn without_payload<W: Write>(
+    out: &mut W,
+    before: Connection,
+    code: u32,
+    tag: u32,
+    cache: &mut [u8],
+) -> io::Result<Connection> {
+    call(out, before, event(code, tag), &[], cache)
 }
 
 // The run's events have bit 0, and its token a verdict of yes and margin 0.
