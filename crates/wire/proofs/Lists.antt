@@ -7,13 +7,17 @@ use native.Mathlib.Omega.{arith}
 use lib.Dec.{ltb}
 use lib.ListN.{length, take, set, length-append, length-replicate}
 use lib.Seq.{length-take-le, take-append_seam, set-append_seam}
+use Rattle.std.specs.Prelude.{Result, Ok, Err}
+use Rattle.std.specs.Result.{is_err}
+use Rattle.fault.specs.declared.Refusal.{Refusal}
 use Rattle.wire.specs.Varint.{Number, value, fault, number_at}
-use Rattle.wire.specs.Parts.{listed, packed_at}
+use Rattle.wire.specs.Parts.{listed, packed_at, packed_of}
+use Rattle.wire.specs.declared.list.Packed.{Packed}
 use Rattle.wire.specs.Bytes.{list_from}
 use Rattle.wire.specs.Layout.{block, faulty, block_at, places, after_number, entries_from}
 use Rattle.fault.specs.Fault.{at, leftmost, read_as, refused, judged}
 use Rattle.wire.specs.Lists.{of_number, of_entries, suites_from, entries, padded}
-use Rattle.fault.proofs.Order.{Between, widen, joined, not_before, append_refused}
+use Rattle.fault.proofs.Order.{Between, absurd_bool, widen, joined, not_before, append_refused}
 use Rattle.wire.proofs.Places.{Stands, stands, at_end, one_more, block_within}
 
 module _ (list : List ℕ) where
@@ -124,3 +128,8 @@ module _ (message : List ℕ) (place : ℕ) where
   pub packed_list : (start size : ℕ) → block_at message place ≡ block start size → packed_at message place ≡ list_from (take (start + size) message) start
   unfolding packed_at list_from
   packed_list start size e = rw (e, length-take-le (start + size) message (block_within message place start size e).1)
+
+-- After a fault it does not matter what the list holds.
+pub none_taken : (r : Result Packed Refusal) (suites suites' : List ℕ) → true ≡ is_err r → packed_of r suites ≡ packed_of r suites'
+none_taken (Ok list) suites suites' e = absurd_bool e
+none_taken (Err refusal) suites suites' e = refl

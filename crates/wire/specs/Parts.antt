@@ -1,26 +1,24 @@
--- The values of the definitions for each case of the enums that the code answers with.
-use Rattle.std.specs.Prelude.{◌≡◌, ℕ, ◌≤◌, List, []}
+-- The values of the definitions for each case of the results that the code answers with.
+use Rattle.std.specs.Prelude.{◌≡◌, ℕ, ◌≤◌, List, [], Result, Ok, Err}
 use Rattle.wire.specs.Varint.{Number, value, fault}
 use Rattle.wire.specs.Layout.{Block, block, faulty, block_at, after_block}
 use Rattle.fault.specs.Fault.{Reading, read_as, refused, judged}
 use Rattle.wire.specs.Lists.{of_list, suites_in, entries, padded}
 use Rattle.fault.specs.Refusals.{refusal_number}
+use Rattle.fault.specs.declared.Refusal.{Refusal}
 use Rattle.wire.specs.declared.varint.Varint.{Varint}
-use Rattle.wire.specs.declared.varint.Varint.TheVariants as varint
-use Rattle.wire.specs.declared.block.Block as part
-use Rattle.wire.specs.declared.block.Block.TheVariants as part_is
+use Rattle.wire.specs.declared.block.Span.{Span}
 use Rattle.wire.specs.declared.list.Packed.{Packed}
-use Rattle.wire.specs.declared.list.Packed.TheVariants as packed
 
 -- A varint.
-abbrev pub number_of : Varint → Number
-number_of (varint.Number number next) = value number next
-number_of (varint.Fault refusal) = fault (refusal_number refusal)
+abbrev pub number_of : Result Varint Refusal → Number
+number_of (Ok varint) = value varint.value varint.next
+number_of (Err refusal) = fault (refusal_number refusal)
 
 -- A length-delimited part.
-abbrev pub block_of : part.Block → Block
-block_of (part_is.Bytes start size) = block start size
-block_of (part_is.Fault refusal) = faulty (refusal_number refusal)
+abbrev pub block_of : Result Span Refusal → Block
+block_of (Ok part) = block part.place part.size
+block_of (Err refusal) = faulty (refusal_number refusal)
 
 -- The suites of a packed list, and the place after it.
 pub record Listed : Type 0 where
@@ -38,15 +36,15 @@ packed_at bytes place =
     (listed (suites_in bytes (block_at bytes place)) (after_block bytes (block_at bytes place)))
 
 -- A packed list, with the list that its suites were written to.
-abbrev pub packed_of : Packed → List ℕ → Reading Listed
-packed_of (packed.Suites count next) suites = read_as (listed (entries count suites) next)
-packed_of (packed.Fault refusal) suites = refused (refusal_number refusal)
+abbrev pub packed_of : Result Packed Refusal → List ℕ → Reading Listed
+packed_of (Ok list) suites = read_as (listed (entries list.count suites) list.next)
+packed_of (Err refusal) suites = refused (refusal_number refusal)
 
 -- A list of sixteen entries holds so many suites, and then zeros.
 abbrev pub Holds : ℕ → List ℕ → Type 0
 Holds count list = (count ≤ 16) × (list ≡ padded (entries count list))
 
 -- What the list holds that suites were written to: those that were counted, and then zeros; after a fault, zeros alone.
-abbrev pub Stored : Packed → List ℕ → Type 0
-Stored (packed.Suites count next) list = Holds count list
-Stored (packed.Fault refusal) list = list ≡ padded []
+abbrev pub Stored : Result Packed Refusal → List ℕ → Type 0
+Stored (Ok list) suites = Holds list.count suites
+Stored (Err refusal) suites = suites ≡ padded []

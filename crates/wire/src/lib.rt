@@ -5,6 +5,6 @@ mod block;
 mod list;
 mod varint;
 
-pub use crate::block::{Block, block_at};
+pub use crate::block::{Span, block_at};
 pub use crate::list::{Packed, packed_at};
 pub use crate::varint::{Varint, bit, number};

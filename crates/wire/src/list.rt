@@ -1,63 +1,57 @@
 // A packed list of suites.
-ghost use Rattle.std.specs.Prelude.{◌≡◌, []};
+ghost use Rattle.std.specs.Prelude.{◌≡◌, [], IfOk};
 ghost use Rattle.wire.specs.Bytes.{list_from};
 ghost use Rattle.wire.specs.Lists.{padded};
-ghost use Rattle.wire.specs.Parts.{Stored, packed_at, packed_of};
+ghost use Rattle.wire.specs.Parts.{Holds, Stored, packed_at, packed_of};
 
-use crate::block::{Block, block_at};
-use crate::varint::{Varint, entry};
+use crate::block::block_at;
+use crate::varint::entry;
 use fault::Refusal;
 
 const MAX_ENTRIES: usize = 16;
 
 // How many suites were read, with the place after the list.
-#[derive(Clone, Copy)]
-pub enum Packed {
-    Suites(usize, usize),
-    Fault(Refusal),
+#[derive(Clone, Copy, Debug, PartialEq, Eq)]
+pub struct Packed {
+    pub count: usize,
+    pub next: usize,
 }
 
-// The entries from `start` to the end of the bytes, written to `suites`, which holds zeros.
-fn entries(bytes: &[u8], start: usize, suites: &mut [u32; 16]) -> Packed
+// The entries from `start` to the end of the bytes, written to `suites`, which holds zeros. The loop goes over places: where
+// the next entry stands is known when this one is read.
+fn entries(bytes: &[u8], start: usize, suites: &mut [u32; 16]) -> Result<Packed, Refusal>
     requires { suites.old ≡ padded [] }
     ensures suites_after { packed_of result suites.new ≡ list_from bytes.now start }
-    ensures stored { Stored result suites.new }
+    ensures stored { IfOk result (λ list. Holds list.count suites.new) }
 {
     let mut count = 0;
     let mut at = start;
     while at < bytes.len() {
-        let read = entry(bytes, at);
-        match read {
-            Varint::Fault(refusal) => {
-                *suites = [0; 16];
-                return Packed::Fault(refusal);
-            }
-            Varint::Number(suite, next) => {
-                if count == MAX_ENTRIES {
-                    *suites = [0; 16];
-                    return Packed::Fault(Refusal::TooManySuites);
-                }
-                suites[count] = suite;
-                count += 1;
-                at = next;
-            }
+        let suite = entry(bytes, at)?;
+        if count == MAX_ENTRIES {
+            return Err(Refusal::TooManySuites);
         }
+        suites[count] = suite.value;
+        count += 1;
+        at = suite.next;
     }
-    Packed::Suites(count, bytes.len())
+    Ok(Packed {
+        count,
+        next: bytes.len(),
+    })
 }
 
 // The packed list at a place, written to `suites` with zeros behind it. After a fault `suites` holds zeros.
-pub fn packed_at(bytes: &[u8], place: usize, suites: &mut [u32; 16]) -> Packed
+pub fn packed_at(bytes: &[u8], place: usize, suites: &mut [u32; 16]) -> Result<Packed, Refusal>
     ensures suites_after { packed_of result suites.new ≡ packed_at bytes.now place }
     ensures stored { Stored result suites.new }
 {
     *suites = [0; 16];
-    let part = block_at(bytes, place);
-    match part {
-        Block::Fault(refusal) => Packed::Fault(refusal),
-        Block::Bytes(start, size) => {
-            let end = start + size;
-            entries(&bytes[..end], start, suites)
-        }
+    let part = block_at(bytes, place)?;
+    let end = part.place + part.size;
+    let list = entries(&bytes[..end], part.place, suites);
+    if list.is_err() {
+        *suites = [0; 16];
     }
+    list
 }

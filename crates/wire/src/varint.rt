@@ -23,34 +23,31 @@ const LARGEST_TENTH: u8 = 0;
 const SHORT_WIDTH: usize = 5;
 
 // A number with the place after it.
-#[derive(Clone, Copy)]
-pub enum Varint {
-    Number(u32, usize),
-    Fault(Refusal),
+#[derive(Clone, Copy, Debug, PartialEq, Eq)]
+pub struct Varint {
+    pub value: u32,
+    pub next: usize,
 }
 
-// What the first bytes say: a value, and how many of them say it; they end too soon; or each of them announces more, with
-// what they say so far.
-#[derive(Clone, Copy)]
+// What the first bytes say: a value, and how many of them say it; the bytes end too soon; or each of the first announces more,
+// with what they say so far.
+#[derive(Clone, Copy, Debug, PartialEq, Eq)]
 enum Said {
     Value(u64, usize),
     Cut,
     More(u64),
 }
 
-fn wide(byte: u8) -> u64
-    ensures { result ≡ byte }
-{
-    byte as u64
-}
-
-fn fitting(number: u64, next: usize) -> Varint
+fn fitting(number: u64, next: usize) -> Result<Varint, Refusal>
     ensures { number_of result ≡ cond (ltb 4294967295 number) (fault 24) (value number next) }
 {
     if number > LARGEST {
-        return Varint::Fault(Refusal::NumberTooLarge);
+        return Err(Refusal::NumberTooLarge);
     }
-    Varint::Number(number as u32, next)
+    Ok(Varint {
+        value: number as u32,
+        next,
+    })
 }
 
 // What the first `most` bytes say.
@@ -60,37 +57,31 @@ fn first_bytes(bytes: &[u8], most: usize) -> Said
 {
     let mut low: u64 = 0;
     let mut scale: u64 = 1;
-    let mut at = 0;
-    while at < most {
-        if at >= bytes.len() {
-            return Said::Cut;
+    for (at, byte) in bytes.iter().enumerate() {
+        if at == most {
+            return Said::More(low);
         }
-        let byte = wide(bytes[at]);
+        let byte = u64::from(*byte);
         if byte < MORE {
             return Said::Value(low + scale * byte, at + 1);
         }
         low += scale * (byte - MORE);
         scale *= MORE;
-        at += 1;
     }
-    Said::More(low)
+    Said::Cut
 }
 
 // A number of any length, from its bytes on; `place` is that of the first. With any bit of a tenth byte it is too large.
-fn long_number(bytes: &[u8], place: usize) -> Varint
+fn long_number(bytes: &[u8], place: usize) -> Result<Varint, Refusal>
     requires { place + length bytes.now ≤ 18446744073709551615 }
     ensures { number_of result ≡ number_from place (said 10 bytes.now) }
 {
-    let said = first_bytes(bytes, SAFE_WIDTH);
-    match said {
+    match first_bytes(bytes, SAFE_WIDTH) {
         Said::Value(number, width) => fitting(number, place + width),
-        Said::Cut => Varint::Fault(Refusal::EndsTooSoon),
+        Said::Cut => Err(Refusal::EndsTooSoon),
         Said::More(low) => {
-            if SAFE_WIDTH >= bytes.len() {
-                return Varint::Fault(Refusal::EndsTooSoon);
-            }
             if bytes[SAFE_WIDTH] > LARGEST_TENTH {
-                return Varint::Fault(Refusal::NumberTooLarge);
+                return Err(Refusal::NumberTooLarge);
             }
             fitting(low, place + 10)
         }
@@ -98,20 +89,26 @@ fn long_number(bytes: &[u8], place: usize) -> Varint
 }
 
 // The number at a place. Most keys and lengths are said by one byte or two, and these are read without a call.
-pub fn number(bytes: &[u8], place: usize) -> Varint
+pub fn number(bytes: &[u8], place: usize) -> Result<Varint, Refusal>
     ensures { number_of result ≡ number_at bytes.now place }
 {
     if place >= bytes.len() {
-        return Varint::Fault(Refusal::EndsTooSoon);
+        return Err(Refusal::EndsTooSoon);
     }
-    let first = wide(bytes[place]);
+    let first = u64::from(bytes[place]);
     if first < MORE {
-        return Varint::Number(first as u32, place + 1);
+        return Ok(Varint {
+            value: first as u32,
+            next: place + 1,
+        });
     }
     if bytes.len() - place > 1 {
-        let second = wide(bytes[place + 1]);
+        let second = u64::from(bytes[place + 1]);
         if second < MORE {
-            return Varint::Number((first - MORE + MORE * second) as u32, place + 2);
+            return Ok(Varint {
+                value: (first - MORE + MORE * second) as u32,
+                next: place + 2,
+            });
         }
     }
     long_number(&bytes[place..], place)
@@ -119,33 +116,27 @@ pub fn number(bytes: &[u8], place: usize) -> Varint
 
 // The same of an entry of a list, which may well have five bytes: where these are there, the compiler can leave out the tests
 // for the end.
-pub(crate) fn entry(bytes: &[u8], place: usize) -> Varint
+pub(crate) fn entry(bytes: &[u8], place: usize) -> Result<Varint, Refusal>
     requires { place ≤ length bytes.now }
     ensures { number_of result ≡ number_at bytes.now place }
 {
     if bytes.len() - place < SHORT_WIDTH {
         return number(bytes, place);
     }
-    let said = first_bytes(&bytes[place..], SHORT_WIDTH);
-    match said {
+    match first_bytes(&bytes[place..], SHORT_WIDTH) {
         Said::Value(number, width) => fitting(number, place + width),
-        Said::Cut => Varint::Fault(Refusal::EndsTooSoon),
+        Said::Cut => Err(Refusal::EndsTooSoon),
         Said::More(_) => long_number(&bytes[place..], place),
     }
 }
 
 // The bit at a place.
-pub fn bit(bytes: &[u8], place: usize) -> Varint
+pub fn bit(bytes: &[u8], place: usize) -> Result<Varint, Refusal>
     ensures { number_of result ≡ bit_at bytes.now place }
 {
-    let varint = number(bytes, place);
-    match varint {
-        Varint::Fault(refusal) => Varint::Fault(refusal),
-        Varint::Number(bit, next) => {
-            if bit > LARGEST_BIT {
-                return Varint::Fault(Refusal::NumberTooLarge);
-            }
-            Varint::Number(bit, next)
-        }
+    let bit = number(bytes, place)?;
+    if bit.value > LARGEST_BIT {
+        return Err(Refusal::NumberTooLarge);
     }
+    Ok(bit)
 }

@@ -3,7 +3,7 @@ use Rattle.wire.proofs.Places.{after_read, within}
 use Rattle.wire.proofs.block.block_at.Goals as goal
 
 pub overflow_sub-bytes : goal.overflow_sub-bytes
-overflow_sub-bytes c = (after_read _ _ _ _ (sym c.in-Number.ensures)).1
+overflow_sub-bytes c = (after_read _ _ _ _ (sym c.in_ok-length.ensures)).1
 
-pub returns-else-bytes-start : goal.returns-else-bytes-start
-returns-else-bytes-start c = within _ _ _ _ (sym c.in-Number.ensures) c.if-bytes-start.false
+pub returns : goal.returns
+returns c = within _ _ _ _ (sym c.in_ok-length.ensures) c.if-bytes-length.false

@@ -1,4 +1,5 @@
 use Rattle.std.proofs.Common.{◌≡◌, refl, sym, ap, ◌∙◌, [], ◌∷◌, ◌++◌, ℕ, suc, ◌+◌, ◌-◌, length, length-append, arith}
+use Rattle.std.proofs.lemmas.Result.{err_from_is_err_and}
 use Rattle.fault.specs.Fault.{judged}
 use Rattle.wire.specs.Layout.{entries_from}
 use Rattle.wire.specs.Lists.{of_entries, suites_from, entries}
@@ -12,10 +13,11 @@ pub loop-at-init : goal.loop-at-init
 unfolding list_from
 loop-at-init c = ([], refl, omega arith, c.requires, refl)
 
-pub returns-in-Fault-clause-suites_after : goal.returns-in-Fault-clause-suites_after
-returns-in-Fault-clause-suites_after c =
+pub returns-in_err-suite-clause-suites_after : goal.returns-in_err-suite-clause-suites_after
+returns-in_err-suite-clause-suites_after c =
     let l = c.loop-at in
-    sym (entry_faulty _ l.at c.loop-at-test.true _ (16 - l.count) _ (sym c.in-Fault.ensures)) ∙ l.invariant.4
+    let p = err_from_is_err_and c.from_residual.result c.from_residual.ensures.1 in
+    rw (p.1, p.2) (sym (entry_faulty _ l.at c.loop-at-test.true _ (16 - l.count) _ (sym c.in_err-suite.ensures)) ∙ l.invariant.4)
 
 pub returns-then-count-eq-MAX_ENTRIES-clause-suites_after : goal.returns-then-count-eq-MAX_ENTRIES-clause-suites_after
 returns-then-count-eq-MAX_ENTRIES-clause-suites_after c =
@@ -23,25 +25,25 @@ returns-then-count-eq-MAX_ENTRIES-clause-suites_after c =
     let s = c.args.bytes.now in
     let full : 16 - l.count ≡ 0 = omega (arith, c.if-count-eq-MAX_ENTRIES.true) in
     sym (ap (λ (n : ℕ). judged (of_entries s n (entries_from s l.at)) (listed (l.invariant.0 ++ suites_from s l.at) (length s))) full
-    ∙ one_too_many s l.at c.loop-at-test.true _ _ (sym c.in-Number.ensures) _)
+    ∙ one_too_many s l.at c.loop-at-test.true _ _ (sym c.in_ok-suite.ensures) _)
     ∙ l.invariant.4
 
 pub loop-at-smaller : goal.loop-at-smaller
 loop-at-smaller c =
     let l = c.loop-at in
-    omega (arith, (after_read _ l.at _ _ (sym c.in-Number.ensures)).0, c.loop-at-test.true)
+    omega (arith, (after_read _ l.at _ _ (sym c.in_ok-suite.ensures)).0, c.loop-at-test.true)
 
 pub loop-at-preserved : goal.loop-at-preserved
 loop-at-preserved c =
     let l = c.loop-at in
     let s = c.args.bytes.now in
-    let suite = c.in-Number.suite in
+    let suite = c.in_ok-suite.suite.value in
     let more : 16 - l.count ≡ suc (16 - (l.count + 1)) = omega (arith, c.if-count-eq-MAX_ENTRIES.false, l.invariant.2) in (
       l.invariant.0 ++ (suite ∷ []),
       length-append l.invariant.0 (suite ∷ []) ∙ ap (λ (n : ℕ). n + 1) l.invariant.1,
       omega (arith, c.if-count-eq-MAX_ENTRIES.false, l.invariant.2),
       rw (l.invariant.3, ← l.invariant.1) (one_stored l.invariant.0 suite (omega (arith, c.if-count-eq-MAX_ENTRIES.false, l.invariant.2, l.invariant.1))),
-      entry_taken s l.at c.loop-at-test.true suite _ (sym c.in-Number.ensures) (16 - (l.count + 1)) l.invariant.0
+      entry_taken s l.at c.loop-at-test.true suite _ (sym c.in_ok-suite.ensures) (16 - (l.count + 1)) l.invariant.0
           ∙ ap (λ (n : ℕ). judged (of_entries s n (entries_from s l.at)) (listed (l.invariant.0 ++ suites_from s l.at) (length s))) (sym more)
           ∙ l.invariant.4,
     )

@@ -1,9 +1,19 @@
 use Rattle.std.proofs.Common.{sym, ◌∙◌}
-use Rattle.wire.proofs.Lists.{packed_faulty, packed_list}
+use Rattle.std.proofs.lemmas.Result.{err_from_is_err_and}
+use Rattle.wire.proofs.Lists.{none_taken, packed_faulty, packed_list}
 use Rattle.wire.proofs.list.packed_at.Goals as goal
 
-pub returns-in-Fault-clause-suites_after : goal.returns-in-Fault-clause-suites_after
-returns-in-Fault-clause-suites_after c = sym (packed_faulty _ _ _ (sym c.in-Fault.ensures))
+pub returns-in_err-part-clause-suites_after : goal.returns-in_err-part-clause-suites_after
+returns-in_err-part-clause-suites_after c =
+    let p = err_from_is_err_and c.from_residual.result c.from_residual.ensures.1 in
+    rw (p.1, p.2) (sym (packed_faulty _ _ _ (sym c.in_err-part.ensures)))
 
-pub returns-in-Bytes-clause-suites_after : goal.returns-in-Bytes-clause-suites_after
-returns-in-Bytes-clause-suites_after c = c.entries.ensures.suites_after ∙ sym (packed_list _ _ _ _ (sym c.in-Bytes.ensures))
+pub returns-then-is_err-clause-suites_after : goal.returns-then-is_err-clause-suites_after
+returns-then-is_err-clause-suites_after c =
+    none_taken c.entries-list.result _ c.entries-list.new.suites c.if-is_err.ensures.value
+    ∙ c.entries-list.ensures.suites_after
+    ∙ sym (packed_list _ _ _ _ (sym c.in_ok-part.ensures))
+
+pub returns-else-is_err-clause-suites_after : goal.returns-else-is_err-clause-suites_after
+returns-else-is_err-clause-suites_after c =
+    c.entries-list.ensures.suites_after ∙ sym (packed_list _ _ _ _ (sym c.in_ok-part.ensures))

@@ -10,6 +10,3 @@ invariant-loop-at l =
     × (l.scale ≡ 128 ^ l.at)
     × (l.low < l.scale)
     × (said 10 l.bytes ≡ behind l.low l.scale l.at (said (10 - l.at) (drop l.at l.bytes)))
-
-abbrev pub decreases-loop-at : goal.decreases-loop-at
-decreases-loop-at l = l.most - l.at

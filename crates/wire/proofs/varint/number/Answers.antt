@@ -7,13 +7,13 @@ pub returns-then-place-bytes : goal.returns-then-place-bytes
 returns-then-place-bytes c = none_there _ _ c.if-place-bytes.true
 
 pub returns-then-first-lt-MORE : goal.returns-then-first-lt-MORE
-returns-then-first-lt-MORE c = one_byte _ _ _ c.if-place-bytes.false c.wide-first.ensures c.if-first-lt-MORE.true
+returns-then-first-lt-MORE c = one_byte _ _ _ c.if-place-bytes.false c.from-first.ensures c.if-first-lt-MORE.true
 
 pub returns-then-second-lt-MORE : goal.returns-then-second-lt-MORE
 returns-then-second-lt-MORE c =
-    let a_byte : c.wide-first.result < 256 = omega (arith, c.wide-first.ensures, c.type_inv.bytes c.args.place) in
-    two_bytes c.args.bytes.now c.args.place _ c.if-place-bytes.false c.wide-first.ensures
-    _ c.if-first-lt-MORE.false a_byte (omega (arith, c.if-bytes-place-gt1.true)) c.wide-second.ensures c.if-second-lt-MORE.true
+    let a_byte : c.from-first.result < 256 = omega (arith, c.from-first.ensures, c.type_inv.bytes c.args.place) in
+    two_bytes c.args.bytes.now c.args.place _ c.if-place-bytes.false c.from-first.ensures
+    _ c.if-first-lt-MORE.false a_byte (omega (arith, c.if-bytes-place-gt1.true)) c.from-second.ensures c.if-second-lt-MORE.true
 
 pub returns : goal.returns
 unfolding number_at
