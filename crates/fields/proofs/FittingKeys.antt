@@ -9,9 +9,8 @@ use borrow.Author.Tests.{eq-eqb, ne_eqb, eqb-true}
 use Rattle.wire.specs.Layout.{field_number, wire_type}
 use Rattle.fault.proofs.Order.{absurd_bool}
 use Rattle.fields.specs.Schema.{Form, Unknown, Bytes, Provers, Verifiers, Bit, form_in, is_unknown, wrong_type}
-use Rattle.fields.specs.Fields.{Marks, is_read, is_unexpected}
-use Rattle.fields.specs.Steps.{hello_marks, plain_marks}
-use Rattle.fields.specs.declared.hello.Marks as of_hello_marks
+use Rattle.fields.specs.Fields.{Marks, is_read, is_unexpected, marks}
+use Rattle.fields.specs.Steps.{plain_marks}
 use Rattle.fields.proofs.FieldSteps.{or_left, is_it}
 use Rattle.fields.proofs.Forms.{known_number, no_message}
 use Rattle.fields.proofs.OneField.{Refuses}
@@ -123,12 +122,12 @@ none_refuses message key read none = record {
 }
 
 module _ (key : ℕ) where
-  pub hello_refuses : (read : of_hello_marks.Marks) →
-      (eqb key 10 && not read.token) ≡ false → (eqb key 18 && not read.provers) ≡ false → (eqb key 26 && not read.verifiers) ≡ false →
-      Refuses 1 key (hello_marks read)
-      (((eqb (field_number key) 1 && not read.token) || (eqb (field_number key) 2 && not read.provers)) || (eqb (field_number key) 3 && not read.verifiers))
+  pub hello_refuses : (token provers verifiers : Bool) →
+      (eqb key 10 && not token) ≡ false → (eqb key 18 && not provers) ≡ false → (eqb key 26 && not verifiers) ≡ false →
+      Refuses 1 key (marks token provers verifiers false)
+      (((eqb (field_number key) 1 && not token) || (eqb (field_number key) 2 && not provers)) || (eqb (field_number key) 3 && not verifiers))
   unfolding form_in
-  hello_refuses read a b c = refuses 1 key (hello_marks read) record { none_below = refl; none_above = λ k. refl } a b c
+  hello_refuses token provers verifiers a b c = refuses 1 key (marks token provers verifiers false) record { none_below = refl; none_above = λ k. refl } a b c
 
   pub data_refuses : (b t : Bool) → (eqb key 10 && not b) ≡ false → (eqb key 16 && not t) ≡ false →
       Refuses 8 key (plain_marks b t) ((eqb (field_number key) 1 && not b) || (eqb (field_number key) 2 && not t))

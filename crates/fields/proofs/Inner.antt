@@ -8,6 +8,7 @@ use borrow.Author.Tests.{lt-ltb, le-ltb, ltb-true, ne_eqb}
 use lib.Dec.{ltb}
 use lib.ListN.{length, take}
 use lib.Seq.{length-take-le}
+use Rattle.std.specs.Prelude.{Result, Ok, Err}
 use Rattle.wire.specs.Layout.{block, faulty, block_at, fields_from}
 use Rattle.fault.specs.Fault.{Fault, Reading, at, fault_if, leftmost, read_as, refused, judged}
 use Rattle.wire.specs.Lists.{entries}
@@ -23,7 +24,7 @@ use Rattle.fields.specs.Steps.{Reads, ReadsPlain, fields_of, inner_of}
 use Rattle.fields.specs.declared.Contents.{Contents}
 use Rattle.fields.specs.declared.Contents.TheVariants as contents
 use Rattle.fields.specs.declared.Held.{Held}
-use Rattle.fields.specs.declared.Span.{Span}
+use Rattle.wire.specs.declared.block.Span.{Span}
 use Rattle.fields.proofs.FieldSteps.{fields_from_lem}
 
 module _ (number : ℕ) (bytes : List ℕ) (start size : ℕ) (h : start + size ≤ length bytes) where
@@ -81,10 +82,10 @@ module _ (number : ℕ) (bytes : List ℕ) (place : ℕ) where
   inside start size e = rw (e)
 
 -- What is promised of contents and lists.
-pub reads_refused : (number : ℕ) (refusal : Refusal) → ReadsPlain number (contents.Fault refusal) (refused (refusal_number refusal))
+pub reads_refused : (number : ℕ) (refusal : Refusal) → ReadsPlain number (Err refusal) (refused (refusal_number refusal))
 reads_refused number refusal provers verifiers = record { reads = refl; provers_left = refl; verifiers_left = refl; fits = tt }
 
-pub reads_plain : (number : ℕ) (part : Span) (bit : ℕ) → (number ≡ 1 → ⊥) → ReadsPlain number (contents.Plain number part bit) (read_as (made number part.place part.size bit [] []))
+pub reads_plain : (number : ℕ) (part : Span) (bit : ℕ) → (number ≡ 1 → ⊥) → ReadsPlain number (Ok (contents.Plain number part bit)) (read_as (made number part.place part.size bit [] []))
 reads_plain number part bit h provers verifiers = record {
   reads = refl;
   provers_left = rw (ne_eqb number 1 h);
@@ -93,21 +94,21 @@ reads_plain number part bit h provers verifiers = record {
 }
 
 pub reads_hello : (held : Held) (provers verifiers provers' verifiers' : List ℕ) → Holds held.provers provers' → Holds held.verifiers verifiers' →
-    Reads 1 (contents.Hello held) (read_as (made 1 held.place held.size 0 (entries held.provers provers') (entries held.verifiers verifiers'))) provers verifiers provers' verifiers'
+    Reads 1 (Ok (contents.Hello held)) (read_as (made 1 held.token.place held.token.size 0 (entries held.provers provers') (entries held.verifiers verifiers'))) provers verifiers provers' verifiers'
 reads_hello held provers verifiers provers' verifiers' h k = record { reads = refl; provers_left = h.1; verifiers_left = k.1; fits = (refl, (h.0, k.0)) }
 
 -- The same of a reading that equals this one.
-pub reads_as : (number : ℕ) (r : Contents) (reading reading' : Reading Message) (provers verifiers provers' verifiers' : List ℕ) → reading' ≡ reading →
+pub reads_as : (number : ℕ) (r : Result Contents Refusal) (reading reading' : Reading Message) (provers verifiers provers' verifiers' : List ℕ) → reading' ≡ reading →
     Reads number r reading provers verifiers provers' verifiers' → Reads number r reading' provers verifiers provers' verifiers'
 reads_as number r reading reading' provers verifiers provers' verifiers' e h = subst (λ (q : Reading Message). Reads number r q provers verifiers provers' verifiers') (sym e) h
 
 -- The same of a number that equals this one.
-pub reads_number : (n m : ℕ) → m ≡ n → (r : Contents) (bytes : List ℕ) (start size : ℕ) (provers verifiers provers' verifiers' : List ℕ) →
+pub reads_number : (n m : ℕ) → m ≡ n → (r : Result Contents Refusal) (bytes : List ℕ) (start size : ℕ) (provers verifiers provers' verifiers' : List ℕ) →
     Reads n r (inner_of n bytes start size) provers verifiers provers' verifiers' → Reads m r (inner_of m bytes start size) provers verifiers provers' verifiers'
 reads_number n m e r bytes start size provers verifiers provers' verifiers' h =
     subst (λ (k : ℕ). Reads k r (inner_of k bytes start size) provers verifiers provers' verifiers') (sym e) h
 
 -- The promises of `read_at`, in its order.
-pub promised : (number : ℕ) (r : Contents) (reading : Reading Message) (provers verifiers provers' verifiers' : List ℕ) → Reads number r reading provers verifiers provers' verifiers' →
+pub promised : (number : ℕ) (r : Result Contents Refusal) (reading : Reading Message) (provers verifiers provers' verifiers' : List ℕ) → Reads number r reading provers verifiers provers' verifiers' →
     (contents_in r provers' verifiers' ≡ reading) × ((provers' ≡ provers_after reading provers) × ((verifiers' ≡ verifiers_after reading verifiers) × Fits number r))
 promised number r reading provers verifiers provers' verifiers' h = (h.reads, (h.provers_left, (h.verifiers_left, h.fits)))

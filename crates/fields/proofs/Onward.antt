@@ -1,4 +1,4 @@
--- The fields read so far, with those to come, are the message.
+-- From field to field.
 use mathlib.Core.Path.{◌≡◌, refl, sym, ap, subst, ◌∙◌}
 use mathlib.Core.Bool.{false}
 use mathlib.Core.List.{List, [], ◌++◌}
@@ -6,6 +6,8 @@ use Prim.Native.Nat.{ℕ, ◌<◌, ◌≤◌}
 use native.Mathlib.Nat.{zero-sub}
 use native.Mathlib.Omega.{arith}
 use lib.ListN.{length}
+use Rattle.std.specs.Prelude.{Option, unwrap_or}
+use Rattle.wire.specs.declared.block.Span.{Span}
 use Rattle.wire.specs.Varint.{number_at}
 use Rattle.wire.specs.Layout.{after_key, fields_from}
 use Rattle.fault.specs.Fault.{Fault, leftmost, read_as, refused, judged}
@@ -17,10 +19,15 @@ use Rattle.wire.proofs.Places.{at_end, one_more}
 use Rattle.fields.specs.Schema.{Form, Unknown, Bytes, Provers, Verifiers, Bit, form_in}
 use Rattle.fields.specs.Faults.{FieldNumbers, no_numbers, adding, field_of, of_field, of_fields}
 use Rattle.fields.specs.Message.{with_field, with_fields}
-use Rattle.fields.specs.Fields.{Fields, Stage, Step, Tidy, is_read, nothing, proceed, seen_in, stage, step_in, stop, view_of}
+use Rattle.fields.specs.Fields.{Fields, Stage, Step, Tidy, TidyStep, is_read, nothing, proceed, seen_in, stage, step_in, stop, view_of}
 use Rattle.fields.specs.Steps.{FieldStep, fields_of}
 use Rattle.fields.proofs.FieldSteps.{field_between, field_ends, fields_from_lem}
 
+-- The bytes of a field that may not have been read.
+abbrev pub span_or_none : Option Span → Span
+span_or_none part = unwrap_or part (record { place = 0; size = 0 })
+
+-- The fields read so far, with those to come, are the message.
 pub record Onward (number : ℕ) (bytes : List ℕ) (start : ℕ) (f : Fields) (provers verifiers : List ℕ) (at : ℕ) : Type 0 where
   pub reads :
       judged (of_fields (form_in number) (seen_in number f.read) bytes (fields_from bytes at)) (with_fields bytes (fields_from bytes at) (view_of number f provers verifiers))
@@ -95,3 +102,8 @@ module _ (number : ℕ) (bytes : List ℕ) (start : ℕ) (f : Fields) (provers v
             ap (λ (g : Stage). judged (of_fields (form_in number) g.former bytes (fields_from bytes g.next)) (with_fields bytes (fields_from bytes g.next) g.message)) (sym reached.0)
             ∙ sym reached.1 ∙ now;
       }
+
+-- The lists hold what was counted, after a field too.
+pub stays_tidy : {number : ℕ} {bytes : List ℕ} {at : ℕ} {f : Fields} {provers verifiers : List ℕ} {r : Step} {provers' verifiers' : List ℕ} →
+    FieldStep number bytes at f provers verifiers r provers' verifiers' → Tidy f provers verifiers → {read : Fields} {after : ℕ} → r ≡ proceed read after → Tidy read provers' verifiers'
+stays_tidy {provers' = provers'} {verifiers' = verifiers'} s t e = subst (λ (q : Step). TidyStep q provers' verifiers') e (s.tidies t)

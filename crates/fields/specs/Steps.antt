@@ -1,5 +1,5 @@
 -- What the private functions answer. No public contract rests on this file.
-use Rattle.std.specs.Prelude.{◌≡◌, ℕ, ◌+◌, Bool, false, List, [], length}
+use Rattle.std.specs.Prelude.{◌≡◌, ℕ, ◌+◌, Bool, false, List, [], length, Result, Ok, Err, is_some}
 use Rattle.wire.specs.Varint.{value, number_at}
 use Rattle.wire.specs.Layout.{block, block_at, after_block, after_number, after_key, fields_from}
 use Rattle.fault.specs.Fault.{Reading, read_as, refused, judged}
@@ -10,17 +10,16 @@ use Rattle.fields.specs.Schema.{Form, Unknown, Bytes, Provers, Verifiers, Bit, f
 use Rattle.fields.specs.Faults.{no_numbers, adding, field_of, of_content, of_field, of_fields, of_inner}
 use Rattle.fields.specs.Message.{Message, made, empty, filled, with_field, with_fields, message_in}
 use Rattle.fields.specs.Contents.{Fits, contents_in, provers_after, verifiers_after}
-use Rattle.fields.specs.Fields.{Fields, Marks, Step, Tidy, TidyStep, marks, proceed, seen_in, stage, step_in, stop, view_of, with_mark, with_bytes, with_bit, with_provers, with_verifiers}
+use Rattle.fields.specs.Fields.{Fields, Marks, Step, Tidy, TidyStep, marks, proceed, seen_in, stage, step_in, stop, view_of, with_bytes, with_bit, with_provers, with_verifiers}
 use Rattle.fields.specs.declared.Contents.{Contents}
 use Rattle.fields.specs.declared.plain.Field as plain
 use Rattle.fields.specs.declared.plain.Field.TheVariants as plain_field
 use Rattle.fields.specs.declared.plain.Plain.{Plain}
-use Rattle.fields.specs.declared.plain.Plain.TheVariants as of_plain
 use Rattle.fields.specs.declared.hello.Field as hello
 use Rattle.fields.specs.declared.hello.Field.TheVariants as hello_field
-use Rattle.fields.specs.declared.hello.Hello.{Hello}
-use Rattle.fields.specs.declared.hello.Hello.TheVariants as of_hello
-use Rattle.fields.specs.declared.hello.Marks as of_hello_marks
+use Rattle.fields.specs.declared.hello.Found.{Found}
+use Rattle.fields.specs.declared.Held.{Held}
+use Rattle.fault.specs.declared.Refusal.{Refusal}
 
 -- The place after what a field of a form holds.
 abbrev pub after_content : Form → List ℕ → ℕ → ℕ
@@ -44,53 +43,41 @@ pub record FieldStep (number : ℕ) (bytes : List ℕ) (place : ℕ) (f : Fields
   pub tidies : Tidy f provers verifiers → TidyStep r provers' verifiers'
 
 -- What a field of a message without lists adds to the fields before it.
-abbrev pub plain_step : plain.Field → Fields → Step
-plain_step (plain_field.Bytes start size) f = proceed (with_bytes start size f) (start + size)
-plain_step (plain_field.Bit bit after) f = proceed (with_bit bit f) after
-plain_step (plain_field.Fault refusal) f = stop refusal
+abbrev pub plain_step : Result plain.Field Refusal → Fields → Step
+plain_step (Ok (plain_field.Bytes part)) f = proceed (with_bytes part.place part.size f) (part.place + part.size)
+plain_step (Ok (plain_field.Bit bit)) f = proceed (with_bit bit.value f) bit.next
+plain_step (Err refusal) f = stop refusal
 
 -- What a field of a hello adds.
-abbrev pub hello_step : hello.Field → Fields → Step
-hello_step (hello_field.Token start size) f = proceed (with_bytes start size f) (start + size)
-hello_step (hello_field.Provers count after) f = proceed (with_provers count f) after
-hello_step (hello_field.Verifiers count after) f = proceed (with_verifiers count f) after
-hello_step (hello_field.Fault refusal) f = stop refusal
-
--- What a field of a message without lists holds, whatever was read before it.
-abbrev pub Content : Form → (bytes : List ℕ) (place : ℕ) → (Fields → Step) → Type 0
-Content form bytes place step = (f : Fields) (provers verifiers : List ℕ) → ContentStep form bytes place (with_mark form f) provers verifiers (step f) provers verifiers
-
--- The same of the prover suites, which are read into a list.
-abbrev pub ProversContent : (bytes : List ℕ) (place : ℕ) → hello.Field → (list : List ℕ) → Type 0
-ProversContent bytes place r list = (f : Fields) (provers verifiers : List ℕ) → ContentStep Provers bytes place (with_mark Provers f) provers verifiers (hello_step r f) list verifiers
-
--- The same of the verifier suites.
-abbrev pub VerifiersContent : (bytes : List ℕ) (place : ℕ) → hello.Field → (list : List ℕ) → Type 0
-VerifiersContent bytes place r list = (f : Fields) (provers verifiers : List ℕ) → ContentStep Verifiers bytes place (with_mark Verifiers f) provers verifiers (hello_step r f) provers list
+abbrev pub hello_step : Result hello.Field Refusal → Fields → Step
+hello_step (Ok (hello_field.Token part)) f = proceed (with_bytes part.place part.size f) (part.place + part.size)
+hello_step (Ok (hello_field.Provers list)) f = proceed (with_provers list.count f) list.next
+hello_step (Ok (hello_field.Verifiers list)) f = proceed (with_verifiers list.count f) list.next
+hello_step (Err refusal) f = stop refusal
 
 -- The marks of a message without lists.
 abbrev pub plain_marks : (bytes bit : Bool) → Marks
 plain_marks bytes bit = marks bytes false false bit
 
 -- One field of a message without lists, with the marks before it.
-abbrev pub PlainStep : (message : ℕ) (bytes : List ℕ) (place : ℕ) → Marks → plain.Field → Type 0
+abbrev pub PlainStep : (message : ℕ) (bytes : List ℕ) (place : ℕ) → Marks → Result plain.Field Refusal → Type 0
 PlainStep message bytes place read r =
     (f : Fields) → f.read ≡ read → (provers verifiers : List ℕ) →
     FieldStep message bytes place f provers verifiers (plain_step r f) provers verifiers
 
 -- The same, by a key that was read and the place behind it.
-abbrev pub PlainKey : (message key : ℕ) (bytes : List ℕ) (behind_key : ℕ) → Marks → plain.Field → Type 0
+abbrev pub PlainKey : (message key : ℕ) (bytes : List ℕ) (behind_key : ℕ) → Marks → Result plain.Field Refusal → Type 0
 PlainKey message key bytes behind_key read r =
     (place : ℕ) → number_at bytes place ≡ value key behind_key → PlainStep message bytes place read r
 
 -- The marks of a hello.
-abbrev pub hello_marks : of_hello_marks.Marks → Marks
-hello_marks read = marks read.token read.provers read.verifiers false
+abbrev pub hello_marks : Found → Marks
+hello_marks found = marks (is_some found.token) (is_some found.provers) (is_some found.verifiers) false
 
 -- One field of a hello.
-abbrev pub HelloStep : (bytes : List ℕ) (place : ℕ) → of_hello_marks.Marks → (provers verifiers : List ℕ) → hello.Field → (provers' verifiers' : List ℕ) → Type 0
-HelloStep bytes place read provers verifiers r provers' verifiers' =
-    (f : Fields) → f.read ≡ hello_marks read → FieldStep 1 bytes place f provers verifiers (hello_step r f) provers' verifiers'
+abbrev pub HelloStep : (bytes : List ℕ) (place : ℕ) → Found → (provers verifiers : List ℕ) → Result hello.Field Refusal → (provers' verifiers' : List ℕ) → Type 0
+HelloStep bytes place found provers verifiers r provers' verifiers' =
+    (f : Fields) → f.read ≡ hello_marks found → FieldStep 1 bytes place f provers verifiers (hello_step r f) provers' verifiers'
 
 -- The fields of a message from `start` to its end.
 unfoldable pub fields_of : (number : ℕ) (bytes : List ℕ) (start : ℕ) → Reading Message
@@ -98,20 +85,20 @@ fields_of number bytes start =
     judged (of_fields (form_in number) no_numbers bytes (fields_from bytes start)) (with_fields bytes (fields_from bytes start) (empty number))
 
 -- The message that the fields are.
-abbrev pub plain_in : ℕ → Plain → Reading Message
-plain_in number (of_plain.Read part bit) = read_as (made number part.place part.size bit [] [])
-plain_in number (of_plain.Fault refusal) = refused (refusal_number refusal)
+abbrev pub plain_in : ℕ → Result Plain Refusal → Reading Message
+plain_in number (Ok plain) = read_as (made number plain.part.place plain.part.size plain.bit [] [])
+plain_in number (Err refusal) = refused (refusal_number refusal)
 
 -- The hello that the fields and the two lists are.
-abbrev pub hello_in : Hello → (provers verifiers : List ℕ) → Reading Message
-hello_in (of_hello.Read held) provers verifiers =
-    read_as (made 1 held.place held.size 0 (entries held.provers provers) (entries held.verifiers verifiers))
-hello_in (of_hello.Fault refusal) provers verifiers = refused (refusal_number refusal)
+abbrev pub hello_in : Result Held Refusal → (provers verifiers : List ℕ) → Reading Message
+hello_in (Ok held) provers verifiers =
+    read_as (made 1 held.token.place held.token.size 0 (entries held.provers provers) (entries held.verifiers verifiers))
+hello_in (Err refusal) provers verifiers = refused (refusal_number refusal)
 
 -- The lists hold the suites that were counted.
-abbrev pub HelloCounts : Hello → (provers verifiers : List ℕ) → Type 0
-HelloCounts (of_hello.Read held) provers verifiers = Holds held.provers provers × Holds held.verifiers verifiers
-HelloCounts (of_hello.Fault refusal) provers verifiers = Unit {0}
+abbrev pub HelloCounts : Result Held Refusal → (provers verifiers : List ℕ) → Type 0
+HelloCounts (Ok held) provers verifiers = Holds held.provers provers × Holds held.verifiers verifiers
+HelloCounts (Err refusal) provers verifiers = Unit {0}
 
 -- The fields of a message that stands in lent bytes, with what follows it.
 unfoldable pub inner_of : (number : ℕ) (bytes : List ℕ) (start size : ℕ) → Reading Message
@@ -119,12 +106,12 @@ inner_of number bytes start size =
     judged (of_inner number bytes 0 (block start size)) (message_in number bytes (block start size))
 
 -- What the contract of `read_at` promises of contents and lists, before and after.
-pub record Reads (number : ℕ) (r : Contents) (reading : Reading Message) (provers verifiers provers' verifiers' : List ℕ) : Type 0 where
+pub record Reads (number : ℕ) (r : Result Contents Refusal) (reading : Reading Message) (provers verifiers provers' verifiers' : List ℕ) : Type 0 where
   pub reads : contents_in r provers' verifiers' ≡ reading
   pub provers_left : provers' ≡ provers_after reading provers
   pub verifiers_left : verifiers' ≡ verifiers_after reading verifiers
   pub fits : Fits number r
 
 -- The same of a message without lists, which leaves both as they are.
-abbrev pub ReadsPlain : (number : ℕ) → Contents → Reading Message → Type 0
+abbrev pub ReadsPlain : (number : ℕ) → Result Contents Refusal → Reading Message → Type 0
 ReadsPlain number r reading = (provers verifiers : List ℕ) → Reads number r reading provers verifiers provers verifiers

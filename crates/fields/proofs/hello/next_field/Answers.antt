@@ -1,40 +1,70 @@
-use Rattle.std.proofs.Common.{refl, sym, ap, ◌∙◌}
+use Rattle.std.proofs.Common.{◌≡◌, refl, sym, ap, ◌∙◌, false, Ok, Err}
+use Rattle.fault.proofs.Passed.{passed_on}
 use Rattle.fields.specs.Schema.{Bytes, Provers, Verifiers, form_in}
-use Rattle.fields.specs.Fields.{is_read}
-use Rattle.fields.specs.Steps.{hello_marks}
+use Rattle.fields.specs.Fields.{is_read, marks}
+use Rattle.fields.proofs.Content.{bytes_content, provers_content, verifiers_content}
 use Rattle.fields.proofs.FittingKeys.{hello_refuses, is_met}
 use Rattle.fields.proofs.OneField.{key_faulty, key_met, key_refused}
 use Rattle.fields.proofs.hello.next_field.Goals as goal
 
-pub returns-then-key-read : goal.returns-then-key-read
+pub returns-in_err-key : goal.returns-in_err-key
+returns-in_err-key c =
+    let a = c.args in
+    rw (passed_on _ c.from_residual.ensures.1)
+    (λ f m. key_faulty 1 a.bytes.now a.place f a.provers.now a.verifiers.now _ (sym c.in_err-key.ensures))
+
+pub returns-in_err-token : goal.returns-in_err-token
 unfolding form_in
-returns-then-key-read c =
+returns-in_err-token c =
     let a = c.args in
-    let t = is_met _ 10 a.read.token c.if-key-read.true in
-    λ f m. key_met 1 a.bytes.now a.place f a.provers.now a.verifiers.now _ _ (sym c.in-Number.ensures) 10 t.0 Bytes refl refl refl (ap (is_read Bytes) m ∙ t.1) _ _ _ (c.token_at.ensures f a.provers.now a.verifiers.now)
+    let t = is_met _ 10 c.is_some-has_token.result c.if-key-has_token.true in
+    rw (passed_on _ c.from_residual-in_err-token.ensures.1)
+    (λ f m. key_met 1 a.bytes.now a.place f a.provers.now a.verifiers.now _ _ (sym c.in_ok-key.ensures) 10 t.0 Bytes refl refl refl (ap (is_read Bytes) m ∙ sym c.is_some-has_token.ensures ∙ t.1) _ _ _ (bytes_content _ _ f _ _ (Err _) c.in_err-token.ensures))
 
-pub returns-then-key-read-2 : goal.returns-then-key-read-2
+pub returns-then-key-has_token : goal.returns-then-key-has_token
 unfolding form_in
-returns-then-key-read-2 c =
+returns-then-key-has_token c =
     let a = c.args in
-    let t = is_met _ 18 a.read.provers c.if-key-read-2.true in
-    λ f m. key_met 1 a.bytes.now a.place f a.provers.now a.verifiers.now _ _ (sym c.in-Number.ensures) 18 t.0 Provers refl refl refl (ap (is_read Provers) m ∙ t.1) _ _ _ (c.provers_at.ensures f a.provers.now a.verifiers.now)
+    let t = is_met _ 10 c.is_some-has_token.result c.if-key-has_token.true in
+    λ f m. key_met 1 a.bytes.now a.place f a.provers.now a.verifiers.now _ _ (sym c.in_ok-key.ensures) 10 t.0 Bytes refl refl refl (ap (is_read Bytes) m ∙ sym c.is_some-has_token.ensures ∙ t.1) _ _ _ (bytes_content _ _ f _ _ (Ok _) c.in_ok-token.ensures)
 
-pub returns-then-key-read-3 : goal.returns-then-key-read-3
+pub returns-in_err-list : goal.returns-in_err-list
 unfolding form_in
-returns-then-key-read-3 c =
+returns-in_err-list c =
     let a = c.args in
-    let t = is_met _ 26 a.read.verifiers c.if-key-read-3.true in
-    λ f m. key_met 1 a.bytes.now a.place f a.provers.now a.verifiers.now _ _ (sym c.in-Number.ensures) 26 t.0 Verifiers refl refl refl (ap (is_read Verifiers) m ∙ t.1) _ _ _ (c.verifiers_at.ensures f a.provers.now a.verifiers.now)
+    let t = is_met _ 18 c.is_some-has_provers.result c.if-key-has_provers.true in
+    rw (passed_on _ c.from_residual-in_err-list.ensures.1)
+    (λ f m. key_met 1 a.bytes.now a.place f a.provers.now a.verifiers.now _ _ (sym c.in_ok-key.ensures) 18 t.0 Provers refl refl refl (ap (is_read Provers) m ∙ sym c.is_some-has_provers.ensures ∙ t.1) _ _ _ (provers_content _ _ f _ _ _ (Err _) c.in_err-list.ensures.suites_after c.in_err-list.ensures.stored))
 
-pub returns-in-Fault : goal.returns-in-Fault
-returns-in-Fault c =
+pub returns-then-key-has_provers : goal.returns-then-key-has_provers
+unfolding form_in
+returns-then-key-has_provers c =
     let a = c.args in
-    λ f m. key_faulty 1 a.bytes.now a.place f a.provers.now a.verifiers.now _ (sym c.in-Fault.ensures)
+    let t = is_met _ 18 c.is_some-has_provers.result c.if-key-has_provers.true in
+    λ f m. key_met 1 a.bytes.now a.place f a.provers.now a.verifiers.now _ _ (sym c.in_ok-key.ensures) 18 t.0 Provers refl refl refl (ap (is_read Provers) m ∙ sym c.is_some-has_provers.ensures ∙ t.1) _ _ _ (provers_content _ _ f _ _ _ (Ok _) c.in_ok-list.ensures.suites_after c.in_ok-list.ensures.stored)
 
-pub returns-else-key-read-3 : goal.returns-else-key-read-3
-returns-else-key-read-3 c =
+pub returns-in_err-list-2 : goal.returns-in_err-list-2
+unfolding form_in
+returns-in_err-list-2 c =
     let a = c.args in
+    let t = is_met _ 26 c.is_some-has_verifiers.result c.if-key-has_verifiers.true in
+    rw (passed_on _ c.from_residual-in_err-list-2.ensures.1)
+    (λ f m. key_met 1 a.bytes.now a.place f a.provers.now a.verifiers.now _ _ (sym c.in_ok-key.ensures) 26 t.0 Verifiers refl refl refl (ap (is_read Verifiers) m ∙ sym c.is_some-has_verifiers.ensures ∙ t.1) _ _ _ (verifiers_content _ _ f _ _ _ (Err _) c.in_err-list-2.ensures.suites_after c.in_err-list-2.ensures.stored))
+
+pub returns-then-key-has_verifiers : goal.returns-then-key-has_verifiers
+unfolding form_in
+returns-then-key-has_verifiers c =
+    let a = c.args in
+    let t = is_met _ 26 c.is_some-has_verifiers.result c.if-key-has_verifiers.true in
+    λ f m. key_met 1 a.bytes.now a.place f a.provers.now a.verifiers.now _ _ (sym c.in_ok-key.ensures) 26 t.0 Verifiers refl refl refl (ap (is_read Verifiers) m ∙ sym c.is_some-has_verifiers.ensures ∙ t.1) _ _ _ (verifiers_content _ _ f _ _ _ (Ok _) c.in_ok-list-2.ensures.suites_after c.in_ok-list-2.ensures.stored)
+
+pub returns : goal.returns
+returns c =
+    let a = c.args in
+    let t = c.is_some-has_token in
+    let p = c.is_some-has_provers in
+    let v = c.is_some-has_verifiers in
+    let same : marks _ _ _ false ≡ marks t.result p.result v.result false = λ i. marks (sym t.ensures i) (sym p.ensures i) (sym v.ensures i) false in
     λ f m.
-    key_refused 1 a.bytes.now a.place f a.provers.now a.verifiers.now _ _ (sym c.in-Number.ensures) (hello_marks a.read) m
-    _ (hello_refuses _ a.read c.if-key-read.false c.if-key-read-2.false c.if-key-read-3.false) _ c.misfit.ensures
+    key_refused 1 a.bytes.now a.place f a.provers.now a.verifiers.now _ _ (sym c.in_ok-key.ensures) (marks t.result p.result v.result false) (m ∙ same)
+    _ (hello_refuses _ t.result p.result v.result c.if-key-has_token.false c.if-key-has_provers.false c.if-key-has_verifiers.false) _ c.misfit.ensures

@@ -1,14 +1,16 @@
 use Rattle.std.proofs.Common.{sym}
+use Rattle.fault.proofs.Passed.{passed_on}
 use Rattle.fields.proofs.OneField.{key_faulty}
 use Rattle.fields.proofs.plain.next_field.Goals as goal
 
-pub returns-then-message-lt-DATA : goal.returns-then-message-lt-DATA
-returns-then-message-lt-DATA c = c.part_field.ensures c.args.bit_read c.args.place (sym c.in-Number.ensures)
-
-pub returns-in-Fault : goal.returns-in-Fault
-returns-in-Fault c =
+pub returns-in_err-key : goal.returns-in_err-key
+returns-in_err-key c =
     let a = c.args in
-    λ f m provers verifiers. key_faulty a.message a.bytes.now a.place f provers verifiers _ (sym c.in-Fault.ensures)
+    rw (passed_on _ c.from_residual.ensures.1)
+    (λ f m provers verifiers. key_faulty a.message a.bytes.now a.place f provers verifiers _ (sym c.in_err-key.ensures))
 
-pub returns-else-message-eq-DATA : goal.returns-else-message-eq-DATA
-returns-else-message-eq-DATA c = c.ack_field.ensures c.args.bytes_read c.args.place (sym c.in-Number.ensures)
+pub returns-then-message-lt-DATA : goal.returns-then-message-lt-DATA
+returns-then-message-lt-DATA c = c.part_field.ensures c.args.has_bit c.args.place (sym c.in_ok-key.ensures)
+
+pub returns : goal.returns
+returns c = c.ack_field.ensures c.args.has_bytes c.args.place (sym c.in_ok-key.ensures)

@@ -1,10 +1,10 @@
 use Rattle.std.proofs.Common.{◌≡◌, refl, sym, ap, ◌∙◌, [], ◌∷◌, ◌++◌, ℕ, suc, ◌+◌, ◌-◌, length, length-append, arith}
-use Rattle.std.proofs.lemmas.Result.{err_from_is_err_and}
 use Rattle.fault.specs.Fault.{judged}
 use Rattle.wire.specs.Layout.{entries_from}
 use Rattle.wire.specs.Lists.{of_entries, suites_from, entries}
 use Rattle.wire.specs.Bytes.{list_from}
 use Rattle.wire.specs.Parts.{listed}
+use Rattle.fault.proofs.Passed.{passed_on}
 use Rattle.wire.proofs.Lists.{entry_faulty, one_too_many, entry_taken, list_ends, one_stored, padded_entries}
 use Rattle.wire.proofs.Places.{after_read}
 use Rattle.wire.proofs.list.entries.Goals as goal
@@ -16,8 +16,7 @@ loop-at-init c = ([], refl, omega arith, c.requires, refl)
 pub returns-in_err-suite-clause-suites_after : goal.returns-in_err-suite-clause-suites_after
 returns-in_err-suite-clause-suites_after c =
     let l = c.loop-at in
-    let p = err_from_is_err_and c.from_residual.result c.from_residual.ensures.1 in
-    rw (p.1, p.2) (sym (entry_faulty _ l.at c.loop-at-test.true _ (16 - l.count) _ (sym c.in_err-suite.ensures)) ∙ l.invariant.4)
+    rw (passed_on _ c.from_residual.ensures.1) (sym (entry_faulty _ l.at c.loop-at-test.true _ (16 - l.count) _ (sym c.in_err-suite.ensures)) ∙ l.invariant.4)
 
 pub returns-then-count-eq-MAX_ENTRIES-clause-suites_after : goal.returns-then-count-eq-MAX_ENTRIES-clause-suites_after
 returns-then-count-eq-MAX_ENTRIES-clause-suites_after c =

@@ -1,12 +1,11 @@
 use Rattle.std.proofs.Common.{sym, ◌∙◌}
-use Rattle.std.proofs.lemmas.Result.{err_from_is_err_and}
+use Rattle.fault.proofs.Passed.{passed_on}
 use Rattle.wire.proofs.Lists.{none_taken, packed_faulty, packed_list}
 use Rattle.wire.proofs.list.packed_at.Goals as goal
 
 pub returns-in_err-part-clause-suites_after : goal.returns-in_err-part-clause-suites_after
 returns-in_err-part-clause-suites_after c =
-    let p = err_from_is_err_and c.from_residual.result c.from_residual.ensures.1 in
-    rw (p.1, p.2) (sym (packed_faulty _ _ _ (sym c.in_err-part.ensures)))
+    rw (passed_on _ c.from_residual.ensures.1) (sym (packed_faulty _ _ _ (sym c.in_err-part.ensures)))
 
 pub returns-then-is_err-clause-suites_after : goal.returns-then-is_err-clause-suites_after
 returns-then-is_err-clause-suites_after c =
