@@ -6,13 +6,13 @@ ghost use Rattle.messages.specs.Outer.{reading_of};
 ghost use Rattle.messages.specs.Whole.{flat_of};
 
 use crate::outer::contents_of;
-use fault::refusal_number;
+use fault::Refusal;
 use fields::{Contents, schema};
 
 // A refusal's number, 0 for none, and then the message's number, its bit, how many suites, and where the token or payload
 // lies. What a message does not carry is 0; where the bytes are refused, all but the refusal is.
 #[repr(C)]
-#[derive(Clone, Copy)]
+#[derive(Clone, Copy, Debug, PartialEq, Eq)]
 pub struct FlatMessage {
     pub refusal: u32,
     pub number: u32,
@@ -23,38 +23,42 @@ pub struct FlatMessage {
     pub size: usize,
 }
 
+const NOTHING: FlatMessage = FlatMessage {
+    refusal: 0,
+    number: 0,
+    bit: 0,
+    provers: 0,
+    verifiers: 0,
+    place: 0,
+    size: 0,
+};
+
 // The numbers of what a message holds.
-fn flat_of(contents: Contents) -> FlatMessage
-    ensures { result ≡ flat_of contents }
-{
-    match contents {
-        Contents::Hello(held) => FlatMessage {
-            refusal: 0,
-            number: schema::HELLO,
-            bit: 0,
-            provers: held.provers,
-            verifiers: held.verifiers,
-            place: held.place,
-            size: held.size,
-        },
-        Contents::Plain(number, part, bit) => FlatMessage {
-            refusal: 0,
-            number,
-            bit,
-            provers: 0,
-            verifiers: 0,
-            place: part.place,
-            size: part.size,
-        },
-        Contents::Fault(refusal) => FlatMessage {
-            refusal: refusal_number(refusal),
-            number: 0,
-            bit: 0,
-            provers: 0,
-            verifiers: 0,
-            place: 0,
-            size: 0,
-        },
+impl From<Result<Contents, Refusal>> for FlatMessage {
+    ghost from_gives = { λ contents m. m ≡ flat_of contents };
+
+    fn from(contents: Result<Contents, Refusal>) -> FlatMessage {
+        match contents {
+            Ok(Contents::Hello(held)) => FlatMessage {
+                number: schema::HELLO,
+                provers: held.provers,
+                verifiers: held.verifiers,
+                place: held.token.place,
+                size: held.token.size,
+                ..NOTHING
+            },
+            Ok(Contents::Plain { number, part, bit }) => FlatMessage {
+                number,
+                bit,
+                place: part.place,
+                size: part.size,
+                ..NOTHING
+            },
+            Err(refusal) => FlatMessage {
+                refusal: u32::from(refusal),
+                ..NOTHING
+            },
+        }
     }
 }
 
@@ -68,5 +72,5 @@ pub fn read_flat(bytes: &[u8], provers: &mut [u32; 16], verifiers: &mut [u32; 16
     ensures counts { (result.provers ≤ 16) × (result.verifiers ≤ 16) }
     ensures known { Known result }
 {
-    flat_of(contents_of(bytes, provers, verifiers))
+    FlatMessage::from(contents_of(bytes, provers, verifiers))
 }

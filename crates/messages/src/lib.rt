@@ -14,68 +14,54 @@ pub use crate::flat::{FlatMessage, read_flat};
 use crate::outer::contents_of;
 use fault::Refusal;
 use fields::Contents;
-pub use fields::{Span, schema};
+pub use fields::{Held, Span, schema};
 
-// A message, or why there is none. The suites of a hello stand in the lists that the caller lends.
-#[derive(Clone, Copy)]
+// A message. The suites of a hello stand in the lists that the caller lends.
+#[derive(Clone, Copy, Debug, PartialEq, Eq)]
 pub enum Message {
-    Hello {
-        token: Span,
-        provers: usize,
-        verifiers: usize,
-    },
+    Hello(Held),
     Close,
     DatExpired,
     Dat(Span),
     ReRa,
     RaProver(Span),
     RaVerifier(Span),
-    Data {
-        payload: Span,
-        bit: u32,
-    },
+    Data { payload: Span, bit: u32 },
     Ack(u32),
-    Refused(Refusal),
 }
 
-// The enum of what a message holds. Its number is one of the nine.
+// The enum of what a message holds. Its number is one of the nine: a `From` would have to take every number.
 fn message_of(contents: Contents) -> Message
     ensures { MessageAs contents result }
 {
     match contents {
-        Contents::Hello(held) => Message::Hello {
-            token: Span {
-                place: held.place,
-                size: held.size,
-            },
-            provers: held.provers,
-            verifiers: held.verifiers,
-        },
-        Contents::Plain(number, bytes, bit) => match number {
+        Contents::Hello(held) => Message::Hello(held),
+        Contents::Plain { number, part, bit } => match number {
             schema::CLOSE => Message::Close,
             schema::DAT_EXPIRED => Message::DatExpired,
-            schema::DAT => Message::Dat(bytes),
+            schema::DAT => Message::Dat(part),
             schema::RE_RA => Message::ReRa,
-            schema::RA_PROVER => Message::RaProver(bytes),
-            schema::RA_VERIFIER => Message::RaVerifier(bytes),
-            schema::DATA => Message::Data {
-                payload: bytes,
-                bit,
-            },
+            schema::RA_PROVER => Message::RaProver(part),
+            schema::RA_VERIFIER => Message::RaVerifier(part),
+            schema::DATA => Message::Data { payload: part, bit },
             _ => Message::Ack(bit),
         },
-        Contents::Fault(refusal) => Message::Refused(refusal),
     }
 }
 
-// Reads one message, as `read_flat` does, and answers with an enum.
-pub fn read(bytes: &[u8], provers: &mut [u32; 16], verifiers: &mut [u32; 16]) -> Message
+// Reads one message, as `read_flat` does, and answers with an enum, or says why there is none.
+pub fn read(
+    bytes: &[u8],
+    provers: &mut [u32; 16],
+    verifiers: &mut [u32; 16],
+) -> Result<Message, Refusal>
     ensures reads { reading_in result provers.new verifiers.new ≡ reading_of bytes.now }
     ensures provers_left { provers.new ≡ provers_after (reading_of bytes.now) provers.old }
     ensures verifiers_left { verifiers.new ≡ verifiers_after (reading_of bytes.now) verifiers.old }
     ensures counts_fit { CountsFit result }
 {
-    message_of(contents_of(bytes, provers, verifiers))
+    let contents = contents_of(bytes, provers, verifiers)?;
+    Ok(message_of(contents))
 }
 
 // The token or payload of a message: a part of the bytes that it was read from.

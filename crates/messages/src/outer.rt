@@ -6,40 +6,38 @@ ghost use Rattle.messages.specs.Whole.{KnownContents, Opened};
 
 use fault::Refusal;
 use fields::{Contents, read_at, schema};
-use wire::{Varint, number};
+use wire::number;
 
 // The keys of the nine messages, of any wire type, begin with the first of these and end before the second.
 const FIRST_KEY: u32 = schema::HELLO * schema::WIRE_TYPES;
 
 const PAST_KEYS: u32 = (schema::ACK + 1) * schema::WIRE_TYPES;
 
-// Which message the field holds, and where its length stands.
-#[derive(Clone, Copy)]
-pub enum Outer {
-    Message(u32, usize),
-    Fault(Refusal),
+// Which message the outer field holds, and where its length stands.
+#[derive(Clone, Copy, Debug, PartialEq, Eq)]
+struct Outer {
+    message: u32,
+    place: usize,
 }
 
 // The outer field, by the key at the first byte.
-fn outer_field(bytes: &[u8]) -> Outer
+fn outer_field(bytes: &[u8]) -> Result<Outer, Refusal>
     ensures { Opened result bytes.now }
 {
-    if bytes.len() == 0 {
-        return Outer::Fault(Refusal::UnexpectedField);
+    if bytes.is_empty() {
+        return Err(Refusal::UnexpectedField);
     }
-    let key = number(bytes, 0);
-    match key {
-        Varint::Fault(refusal) => Outer::Fault(refusal),
-        Varint::Number(key, next) => {
-            if (key < FIRST_KEY) | (key >= PAST_KEYS) {
-                return Outer::Fault(Refusal::UnexpectedField);
-            }
-            if key % schema::WIRE_TYPES == schema::LENGTH_DELIMITED {
-                return Outer::Message(key / schema::WIRE_TYPES, next);
-            }
-            Outer::Fault(Refusal::WrongWireType)
-        }
+    let key = number(bytes, 0)?;
+    if (key.value < FIRST_KEY) | (key.value >= PAST_KEYS) {
+        return Err(Refusal::UnexpectedField);
     }
+    if key.value % schema::WIRE_TYPES != schema::LENGTH_DELIMITED {
+        return Err(Refusal::WrongWireType);
+    }
+    Ok(Outer {
+        message: key.value / schema::WIRE_TYPES,
+        place: key.next,
+    })
 }
 
 // What one message holds, from its first byte on.
@@ -47,15 +45,12 @@ pub(crate) fn contents_of(
     bytes: &[u8],
     provers: &mut [u32; 16],
     verifiers: &mut [u32; 16],
-) -> Contents
+) -> Result<Contents, Refusal>
     ensures reads { contents_in result provers.new verifiers.new ≡ reading_of bytes.now }
     ensures provers_left { provers.new ≡ provers_after (reading_of bytes.now) provers.old }
     ensures verifiers_left { verifiers.new ≡ verifiers_after (reading_of bytes.now) verifiers.old }
     ensures known { KnownContents result }
 {
-    let found = outer_field(bytes);
-    match found {
-        Outer::Fault(refusal) => Contents::Fault(refusal),
-        Outer::Message(message, place) => read_at(message, bytes, place, provers, verifiers),
-    }
+    let outer = outer_field(bytes)?;
+    read_at(outer.message, bytes, outer.place, provers, verifiers)
 }

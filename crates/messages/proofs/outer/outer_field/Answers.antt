@@ -1,21 +1,29 @@
-use Rattle.std.proofs.Common.{sym}
+use Rattle.std.proofs.Common.{◌≡◌, ◌≢◌, sym, length, rules}
+use Rattle.fault.proofs.Passed.{passed_on}
 use Rattle.messages.proofs.Opening.{known, no_bytes, outer_faulty, outer_located, outer_mistyped, outer_unexpected}
 use Rattle.messages.proofs.outer.outer_field.Goals as goal
 
-pub returns-then-key-eq-LENGTH_DELIMITED : goal.returns-then-key-eq-LENGTH_DELIMITED
-returns-then-key-eq-LENGTH_DELIMITED c = (
-  known _ c.if-key.false,
-  outer_located _ c.if-bytes-eq0.false _ _ (sym c.in-Number.ensures) c.if-key.false c.if-key-eq-LENGTH_DELIMITED.true,
-)
+pub returns-then-is_empty : goal.returns-then-is_empty
+returns-then-is_empty c =
+    let e : length c.args.bytes.now ≡ 0 = search rules in
+    no_bytes _ e
 
-pub returns-then-bytes-eq0 : goal.returns-then-bytes-eq0
-returns-then-bytes-eq0 c = no_bytes _ c.if-bytes-eq0.true
+pub returns-in_err-key : goal.returns-in_err-key
+returns-in_err-key c =
+    let some : length c.args.bytes.now ≢ 0 = search rules in
+    rw (passed_on _ c.from_residual.ensures.1) (outer_faulty _ some _ (sym c.in_err-key.ensures))
 
 pub returns-then-key : goal.returns-then-key
-returns-then-key c = outer_unexpected _ c.if-bytes-eq0.false _ _ (sym c.in-Number.ensures) c.if-key.true
+returns-then-key c =
+    let some : length c.args.bytes.now ≢ 0 = search rules in
+    outer_unexpected _ some _ _ (sym c.in_ok-key.ensures) c.if-key.true
 
-pub returns-in-Fault : goal.returns-in-Fault
-returns-in-Fault c = outer_faulty _ c.if-bytes-eq0.false _ (sym c.in-Fault.ensures)
+pub returns-then-key-ne-LENGTH_DELIMITED : goal.returns-then-key-ne-LENGTH_DELIMITED
+returns-then-key-ne-LENGTH_DELIMITED c =
+    let some : length c.args.bytes.now ≢ 0 = search rules in
+    outer_mistyped _ some _ _ (sym c.in_ok-key.ensures) c.if-key.false c.if-key-ne-LENGTH_DELIMITED.true
 
-pub returns-else-key-eq-LENGTH_DELIMITED : goal.returns-else-key-eq-LENGTH_DELIMITED
-returns-else-key-eq-LENGTH_DELIMITED c = outer_mistyped _ c.if-bytes-eq0.false _ _ (sym c.in-Number.ensures) c.if-key.false c.if-key-eq-LENGTH_DELIMITED.false
+pub returns : goal.returns
+returns c =
+    let some : length c.args.bytes.now ≢ 0 = search rules in
+    (known _ c.if-key.false, outer_located _ some _ _ (sym c.in_ok-key.ensures) c.if-key.false c.if-key-ne-LENGTH_DELIMITED.false)
