@@ -29,6 +29,7 @@ fn main(rt: HostRuntime) -> io::Result<()> {
 
 fn run<W: Write>(out: &mut W) -> io::Result<()> {
     let mut connection = fresh();
+    // Document 01 gives the boot program a cache of 4,096 zero bytes.
     let mut cache = [0u8; 4096];
     for (code, tag, payload) in CALLS {
         let outcome = step(

@@ -10,6 +10,7 @@ use std::io;
 use std::io::Write;
 use stdio::{Numbers, Runs};
 
+// Record and event are the numbers of the C interface.
 #[derive(Drop)]
 pub struct Row {
     record: [u32; 12],

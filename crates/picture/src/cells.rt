@@ -1,4 +1,4 @@
-// What the drawing asks of the published table.
+// What the drawing asks of the published table. States, codes and the ack flag are numbers, as `table::next_state` takes them.
 use table::{IGNORED, next_state, states};
 
 // The states between the closed ones, in each of which the same events lock.

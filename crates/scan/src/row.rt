@@ -29,10 +29,10 @@ pub fn groups(row: &[u8]) -> usize {
 }
 
 pub(crate) fn items_of(row: &[u8], group: usize) -> Option<Items<'_>> {
-    let mut groups = row.split(|byte| *byte == SEMICOLON);
-    Some(Items(groups.nth(group)?))
+    row.split(|byte| *byte == SEMICOLON).nth(group).map(Items)
 }
 
+// An item of a group; `None` where there are fewer.
 pub fn item(row: &[u8], group: usize, index: usize) -> Option<&[u8]> {
     items_of(row, group)?.nth(index)
 }
