@@ -37,9 +37,10 @@ fn length_in(line: &[u8], size: usize) -> Result<usize, TooLong>
     Ok(size)
 }
 
-// Reads the next line into a buffer, without its newline, and gives its length; `None` where the input has ended. A line that is longer than the
-// buffer is read to its end. Nothing says that a line ends, so its bytes are counted. Where a read fails, the buffer may hold a part of the line.
-// The answer is a length and no part of the buffer, since the clause `failed` speaks of the buffer after the call, which a borrowed part would hide.
+// Reads the next line into a buffer, without its newline, and gives its length; `None` where the input has ended. A line
+// that is longer than the buffer is read to its end. Nothing says that a line ends, so its bytes are counted. Where a read
+// fails, the buffer may hold a part of the line. The answer is a length and no part of the buffer, since the clause
+// `failed` speaks of the buffer after the call, which a borrowed part would hide.
 pub fn read_line<R: Read>(
     input: &mut R,
     line: &mut [u8],
