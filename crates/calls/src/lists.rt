@@ -1,24 +1,27 @@
 // The four suite lists of a row, which stand in groups one after the other.
+use arrayvec::ArrayVec;
 use scan::numbers;
 
 // The most entries of a list that are understood.
-pub(crate) const ENTRIES: usize = 32;
+const ENTRIES: usize = 32;
 
-// Whether four groups are lists. The index of the first has 32 bits, so that those of the others fit.
-pub(crate) fn are_understood(row: &[u8], first: u32) -> bool {
-    let group = first as usize;
-    let mut entries = [0u32; ENTRIES];
-    let a = numbers(row, group, &mut entries);
-    let b = numbers(row, group + 1, &mut entries);
-    let c = numbers(row, group + 2, &mut entries);
-    let d = numbers(row, group + 3, &mut entries);
-    a.is_all & b.is_all & c.is_all & d.is_all
+#[derive(Drop)]
+pub(crate) struct Lists {
+    pub(crate) our_verifiers: ArrayVec<u32, ENTRIES>,
+    pub(crate) peer_provers: ArrayVec<u32, ENTRIES>,
+    pub(crate) peer_verifiers: ArrayVec<u32, ENTRIES>,
+    pub(crate) our_provers: ArrayVec<u32, ENTRIES>,
 }
 
-// The list that a group is, read into lent entries.
-pub(crate) fn list<'a>(row: &[u8], group: usize, entries: &'a mut [u32]) -> &'a [u32] {
-    let found = numbers(row, group, entries);
-    let len = found.len;
-    let read = &entries[..];
-    &read[0..len]
+impl Lists {
+    // The lists from a group on. The index of the first has 8 bits, so that those of the others fit.
+    pub(crate) fn read(row: &[u8], first: u8) -> Option<Lists> {
+        let group = usize::from(first);
+        Some(Lists {
+            our_verifiers: numbers(row, group)?,
+            peer_provers: numbers(row, group + 1)?,
+            peer_verifiers: numbers(row, group + 2)?,
+            our_provers: numbers(row, group + 3)?,
+        })
+    }
 }

@@ -1,4 +1,4 @@
-// What the drawing asks of the published table.
+// What the drawing asks of the published table. States, codes and the ack flag are numbers, as `table::next_state` takes them.
 use table::{IGNORED, next_state, states};
 
 // The states between the closed ones, in each of which the same events lock.
@@ -6,12 +6,18 @@ pub(crate) const FIRST_OPEN: u32 = states::WAIT_FOR_HELLO;
 
 pub(crate) const LAST_OPEN: u32 = states::WAIT_FOR_ACK;
 
-pub(crate) fn open(state: u32) -> bool {
-    FIRST_OPEN <= state && state <= LAST_OPEN
+fn is_open(state: u32) -> bool {
+    (FIRST_OPEN..=LAST_OPEN).contains(&state)
+}
+
+// The state that follows; `None` where the event is ignored.
+fn next(from: u32, flag: u32, code: u32, held: bool) -> Option<u32> {
+    let next = next_state(from, flag, code, held);
+    (next != IGNORED).then_some(next)
 }
 
 // The values of the ack flag at which an event leads to a state.
-#[derive(Drop)]
+#[derive(Clone, Copy, PartialEq, Eq)]
 pub(crate) enum Flags {
     Neither,
     Clear,
@@ -19,51 +25,66 @@ pub(crate) enum Flags {
     Either,
 }
 
-pub(crate) fn reach(from: u32, to: u32, code: u32, held: bool) -> Flags {
-    let clear = next_state(from, 0, code, held) == to;
-    let set = next_state(from, 1, code, held) == to;
-    if clear && set {
-        Flags::Either
-    } else if clear {
-        Flags::Clear
-    } else if set {
-        Flags::Set
-    } else {
-        Flags::Neither
+// An event by its code, from a state to a state, where the event's condition holds or doesn't.
+#[derive(Clone, Copy)]
+pub(crate) struct Transition {
+    pub(crate) from: u32,
+    pub(crate) to: u32,
+    pub(crate) code: u32,
+    pub(crate) held: bool,
+}
+
+impl Transition {
+    pub(crate) fn flags(self) -> Flags {
+        match (self.leads_with(0), self.leads_with(1)) {
+            (true, true) => Flags::Either,
+            (true, false) => Flags::Clear,
+            (false, true) => Flags::Set,
+            (false, false) => Flags::Neither,
+        }
+    }
+
+    fn leads_with(self, flag: u32) -> bool {
+        next(self.from, flag, self.code, self.held) == Some(self.to)
+    }
+
+    // A condition that isn't asked has one line, and what the note says of all states isn't said again.
+    pub(crate) fn is_shown(self) -> bool {
+        let is_new = if self.held {
+            !self.is_noted()
+        } else {
+            is_asked(self.from, self.code)
+        };
+        is_new && self.flags() != Flags::Neither
+    }
+
+    fn is_noted(self) -> bool {
+        self.to == states::CLOSED_LOCKED && is_open(self.from) && locks(self.code)
     }
 }
 
 // Whether the event's condition decides what follows.
-pub(crate) fn asked(from: u32, code: u32) -> bool {
-    decides(from, 0, code) || decides(from, 1, code)
-}
-
-fn decides(from: u32, flag: u32, code: u32) -> bool {
-    next_state(from, flag, code, true) != next_state(from, flag, code, false)
+fn is_asked(from: u32, code: u32) -> bool {
+    [0, 1].iter().any(|flag| next(from, *flag, code, true) != next(from, *flag, code, false))
 }
 
 // Whether a condition that is asked and doesn't hold leads somewhere, too: both outcomes then need a mark.
-pub(crate) fn fails(from: u32, code: u32) -> bool {
-    asked(from, code) && (handled(from, 0, code) || handled(from, 1, code))
-}
-
-fn handled(from: u32, flag: u32, code: u32) -> bool {
-    next_state(from, flag, code, false) != IGNORED
+pub(crate) fn is_marked(from: u32, code: u32) -> bool {
+    is_asked(from, code)
+        && [0, 1]
+            .iter()
+            .any(|flag| next(from, *flag, code, false).is_some())
 }
 
 // Whether the event locks in each of states 1 to 8.
 pub(crate) fn locks(code: u32) -> bool {
-    let mut each = true;
-    for state in FIRST_OPEN..=LAST_OPEN {
-        each = each && locks_in(state, code);
-    }
-    each
-}
-
-fn locks_in(state: u32, code: u32) -> bool {
-    let reached = reach(state, states::CLOSED_LOCKED, code, true);
-    match reached {
-        Flags::Either => true,
-        _ => false,
-    }
+    (FIRST_OPEN..=LAST_OPEN).all(|from| {
+        let locking = Transition {
+            from,
+            to: states::CLOSED_LOCKED,
+            code,
+            held: true,
+        };
+        locking.flags() == Flags::Either
+    })
 }

@@ -6,8 +6,10 @@ mod cells;
 mod lines;
 mod names;
 mod note;
-mod print;
 
+use crate::lines::Lines;
+use crate::names::State;
+use crate::note::GREY;
 use std::io;
 use std::io::Write;
 use table::states;
@@ -17,7 +19,7 @@ fn main(rt: HostRuntime) -> io::Result<()> {
 }
 
 fn draw<W: Write>(out: &mut W) -> io::Result<()> {
-    print::text(out, b"digraph table {\n")?;
+    writeln!(out, "digraph table {{")?;
     look(out)?;
     nodes(out)?;
     edges(out)?;
@@ -28,45 +30,37 @@ fn draw<W: Write>(out: &mut W) -> io::Result<()> {
         states::WAIT_FOR_RA_PROVER,
         states::WAIT_FOR_DAT_AND_RA_VERIFIER,
     )?;
-    print::text(out, b"}\n")
+    writeln!(out, "}}")
 }
 
 fn look<W: Write>(out: &mut W) -> io::Result<()> {
     defaults(
         out,
-        b"graph",
-        b" rankdir=TB splines=true nodesep=0.19 ranksep=0.4 pad=0.05",
+        "graph",
+        "rankdir=TB splines=true nodesep=0.19 ranksep=0.4 pad=0.05",
     )?;
     defaults(
         out,
-        b"node",
-        b" shape=box style=\"rounded,filled\" margin=\"0.1,0.05\" color=\"#34517f\"",
+        "node",
+        "shape=box style=\"rounded,filled\" margin=\"0.1,0.05\" color=\"#34517f\"",
     )?;
-    defaults(out, b"edge", b" arrowsize=0.7 color=\"#34517f\"")?;
-    print::text(
+    defaults(out, "edge", "arrowsize=0.7 color=\"#34517f\"")?;
+    writeln!(
         out,
-        b"  label=\"An event that is not shown in a state is ignored there; so is a report or timeout that is not live, and a DATA or ACK with another bit.\";\n",
+        "  label=\"An event that is not shown in a state is ignored there; so is a report or timeout that is not live, and a DATA or ACK with another bit.\";"
     )
 }
 
-fn defaults<W: Write>(out: &mut W, kind: &[u8], attributes: &[u8]) -> io::Result<()> {
-    print::text(out, b"  ")?;
-    print::text(out, kind)?;
-    print::text(
+fn defaults<W: Write>(out: &mut W, kind: &str, attributes: &str) -> io::Result<()> {
+    writeln!(
         out,
-        b" [fontname=\"Helvetica,Arial,sans-serif\" fontsize=10",
-    )?;
-    print::text(out, attributes)?;
-    print::text(out, b"];\n")
+        "  {kind} [fontname=\"Helvetica,Arial,sans-serif\" fontsize=10 {attributes}];"
+    )
 }
 
 // Puts two states into one row: left to Graphviz, more edges cross.
 fn side_by_side<W: Write>(out: &mut W, one: u32, other: u32) -> io::Result<()> {
-    print::text(out, b"  {rank=same ")?;
-    print::number(out, one)?;
-    print::text(out, b" ")?;
-    print::number(out, other)?;
-    print::text(out, b"};\n")
+    writeln!(out, "  {{rank=same {one} {other}}};")
 }
 
 // From the last to the first, since fewer edges then cross.
@@ -78,56 +72,51 @@ fn nodes<W: Write>(out: &mut W) -> io::Result<()> {
 }
 
 fn node<W: Write>(out: &mut W, state: u32) -> io::Result<()> {
-    print::text(out, b"  ")?;
-    print::number(out, state)?;
-    print::text(out, b" [fillcolor=\"")?;
-    fill(out, state)?;
-    print::text(
+    let fill = fill(state);
+    let name = State(state);
+    let lines = Lines {
+        from: state,
+        to: state,
+    };
+    write!(out, "  {state} [fillcolor=\"{fill}\" label=<")?;
+    writeln!(
         out,
-        b"\" label=<<TABLE BORDER=\"0\" CELLSPACING=\"0\" CELLPADDING=\"1\">\n",
+        "<TABLE BORDER=\"0\" CELLSPACING=\"0\" CELLPADDING=\"1\">"
     )?;
-    print::text(out, b"    <TR><TD><FONT POINT-SIZE=\"12\"><B>")?;
-    names::state(out, state)?;
-    print::text(out, b"</B></FONT></TD></TR>\n")?;
-    lines::list(out, state, state)?;
-    print::text(out, b"  </TABLE>>];\n")
+    writeln!(
+        out,
+        "    <TR><TD><FONT POINT-SIZE=\"12\"><B>{name}</B></FONT></TD></TR>"
+    )?;
+    writeln!(out, "{lines}  </TABLE>>];")
 }
 
 // One colour each for the closed states, those without a current token, those that move data, and the rest.
-fn fill<W: Write>(out: &mut W, state: u32) -> io::Result<()> {
+fn fill(state: u32) -> &'static str {
     match state {
-        states::CLOSED_UNLOCKED | states::CLOSED_LOCKED => print::text(out, b"#eeeeee"),
-        states::WAIT_FOR_DAT_AND_RA | states::WAIT_FOR_DAT_AND_RA_VERIFIER => {
-            print::text(out, b"#fdf1dc")
-        }
-        states::ESTABLISHED | states::WAIT_FOR_ACK => print::text(out, b"#e3f3e3"),
-        _ => print::text(out, b"#e9f0fa"),
+        states::CLOSED_UNLOCKED | states::CLOSED_LOCKED => "#eeeeee",
+        states::WAIT_FOR_DAT_AND_RA | states::WAIT_FOR_DAT_AND_RA_VERIFIER => "#fdf1dc",
+        states::ESTABLISHED | states::WAIT_FOR_ACK => "#e3f3e3",
+        _ => "#e9f0fa",
     }
 }
 
 fn edges<W: Write>(out: &mut W) -> io::Result<()> {
     for from in states::CLOSED_UNLOCKED..=states::CLOSED_LOCKED {
-        edges_from(out, from)?;
-    }
-    Ok(())
-}
-
-fn edges_from<W: Write>(out: &mut W, from: u32) -> io::Result<()> {
-    for to in states::CLOSED_UNLOCKED..=states::CLOSED_LOCKED {
-        edge(out, from, to)?;
-    }
-    Ok(())
-}
-
-// Edges that lock are grey, so that the others stand out.
-fn edge<W: Write>(out: &mut W, from: u32, to: u32) -> io::Result<()> {
-    if from != to && lines::list(out, from, to)? {
-        print::text(out, b"\"")?;
-        if to == states::CLOSED_LOCKED {
-            print::text(out, b" ")?;
-            note::grey(out)?;
+        for to in states::CLOSED_UNLOCKED..=states::CLOSED_LOCKED {
+            edge(out, from, to)?;
         }
-        print::text(out, b"];\n")?;
     }
     Ok(())
+}
+
+fn edge<W: Write>(out: &mut W, from: u32, to: u32) -> io::Result<()> {
+    let lines = Lines { from, to };
+    if from == to || lines.is_empty() {
+        return Ok(());
+    }
+    write!(out, "  {from} -> {to} [label=\"{lines}\"")?;
+    if to == states::CLOSED_LOCKED {
+        write!(out, " {GREY}")?;
+    }
+    writeln!(out, "];")
 }

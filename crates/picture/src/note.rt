@@ -1,40 +1,36 @@
 // A note of the events that lock in each open state, which its edges then needn't repeat.
-use crate::{cells, names, print};
-use std::io;
+use crate::cells::{FIRST_OPEN, LAST_OPEN, locks};
+use crate::names::Event;
 use std::io::Write;
+use std::{fmt, io};
 use table::{codes, states};
 
+// The look of what locks: grey, so that the rest stands out.
+pub(crate) const GREY: &str = "color=gray60 fontcolor=gray35";
+
+#[derive(Clone, Copy)]
+struct Locking;
+
+impl fmt::Display for Locking {
+    fn fmt<W: fmt::Write>(&self, f: &mut fmt::Formatter<W>) -> fmt::Result {
+        for code in codes::UPPER_START_HANDSHAKE..=codes::ACK_TIMEOUT {
+            if locks(code) {
+                write!(f, "{}\\l", Event(code))?;
+            }
+        }
+        Ok(())
+    }
+}
+
 pub(crate) fn draw<W: Write>(out: &mut W) -> io::Result<()> {
-    print::text(out, b"  note [shape=note style=filled fillcolor=gray95 ")?;
-    grey(out)?;
-    print::text(out, b" label=\"Each of states ")?;
-    print::number(out, cells::FIRST_OPEN)?;
-    print::text(out, b" to ")?;
-    print::number(out, cells::LAST_OPEN)?;
-    print::text(out, b" also locks at:\\l")?;
-    events(out)?;
-    print::text(out, b"\"];\n  note -> ")?;
-    print::number(out, states::CLOSED_LOCKED)?;
-    print::text(out, b" [")?;
-    grey(out)?;
-    print::text(out, b"];\n")
-}
-
-pub(crate) fn grey<W: Write>(out: &mut W) -> io::Result<()> {
-    print::text(out, b"color=gray60 fontcolor=gray35")
-}
-
-fn events<W: Write>(out: &mut W) -> io::Result<()> {
-    for code in codes::UPPER_START_HANDSHAKE..=codes::ACK_TIMEOUT {
-        event(out, code)?;
-    }
-    Ok(())
-}
-
-fn event<W: Write>(out: &mut W, code: u32) -> io::Result<()> {
-    if cells::locks(code) {
-        names::event(out, code)?;
-        print::text(out, b"\\l")?;
-    }
-    Ok(())
+    write!(
+        out,
+        "  note [shape=note style=filled fillcolor=gray95 {GREY}"
+    )?;
+    write!(
+        out,
+        " label=\"Each of states {FIRST_OPEN} to {LAST_OPEN} also locks at:\\l"
+    )?;
+    writeln!(out, "{Locking}\"];")?;
+    writeln!(out, "  note -> {} [{GREY}];", states::CLOSED_LOCKED)
 }

@@ -1,28 +1,32 @@
 // Rows `seconds`: the time left of a token.
 use capi::menhotrac_seconds_left;
-use scan::{groups, item, number, signed};
+use scan::{groups, item, number};
 use std::io;
 use std::io::Write;
-use stdio::print;
 
-// Answers what follows the word; false where it is not understood.
-pub fn answer<W: Write>(out: &mut W, row: &[u8]) -> io::Result<bool> {
-    let expiry = signed(row, 0, 0);
-    let at = signed(row, 0, 1);
-    let margin = number(row, 0, 2);
-    let is_understood = expiry.is_understood
-        & at.is_understood
-        & margin.is_understood
-        & (item(row, 0, 3).len() == 0)
-        & (groups(row) == 1);
-    if !is_understood {
-        return Ok(false);
+#[derive(Clone, Copy)]
+pub struct Row {
+    expiry: i64,
+    now: i64,
+    margin: u32,
+}
+
+impl Row {
+    // What follows the word; `None` where it is not understood.
+    pub fn read(row: &[u8]) -> Option<Row> {
+        if groups(row) != 1 || item(row, 0, 3).is_some() {
+            return None;
+        }
+        Some(Row {
+            expiry: number(row, 0, 0)?,
+            now: number(row, 0, 1)?,
+            margin: number(row, 0, 2)?,
+        })
     }
-    let mut seconds: i64 = 0;
-    let refusal = menhotrac_seconds_left(expiry.value, at.value, margin.value, &mut seconds);
-    print::text(out, b"seconds")?;
-    print::number(out, refusal as u64)?;
-    print::signed(out, seconds)?;
-    print::newline(out)?;
-    Ok(true)
+
+    pub fn answer<W: Write>(&self, out: &mut W) -> io::Result<()> {
+        let mut seconds = 0;
+        let refusal = menhotrac_seconds_left(self.expiry, self.now, self.margin, &mut seconds);
+        writeln!(out, "seconds {refusal} {seconds}")
+    }
 }

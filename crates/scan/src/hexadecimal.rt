@@ -1,92 +1,54 @@
 // Bytes in hexadecimal, two digits a byte, and as COUNT*BYTE.
-ghost use Rattle.std.specs.Prelude.{◌≤◌, length};
+ghost use Rattle.std.specs.Prelude.{◌<◌, IfSome};
 
-use crate::decimal::{LARGEST, decimal, digit};
-use crate::{Entries, find, item};
+use crate::decimal::parse;
+use crate::row::items_of;
+use arrayvec::ArrayVec;
 
 // The most bytes of a group that are understood.
 pub const BYTES: usize = 32_768;
 
-const STAR: u8 = b'*';
-
-// Two digits; at most 255 just where both are digits.
-fn pair(high: u8, low: u8) -> u32 {
-    digit(high) * 16 + digit(low)
-}
-
-// Writes a byte `count` times after the first `len` bytes of a list, if it is one and there is room.
-fn write_repeated(out: &mut [u8], len: usize, count: usize, byte: u32) -> Entries
-    requires { len ≤ length out.old }
-    ensures { result.len ≤ length out.new }
+// The value of a hexadecimal digit in lower case; `to_digit` of `char` takes upper case too.
+fn digit(byte: u8) -> Option<u8>
+    ensures { IfSome result (λ value. value < 16) }
 {
-    if byte > 255 {
-        return Entries { len, is_all: false };
-    }
-    if count > out.len() - len {
-        return Entries { len, is_all: false };
-    }
-    for i in len..len + count {
-        out[i] = byte as u8;
-    }
-    Entries {
-        len: len + count,
-        is_all: true,
+    match byte {
+        b'0'..=b'9' => Some(byte - b'0'),
+        b'a'..=b'f' => Some(byte - b'a' + 10),
+        _ => None,
     }
 }
 
-// Writes the bytes of digits, of which there must be an even number.
-fn write_digits(digits: &[u8], out: &mut [u8], len: usize) -> Entries
-    requires { len ≤ length out.old }
-    ensures { result.len ≤ length out.new }
-{
-    let mut end = len;
-    let mut i = 0;
-    while i + 1 < digits.len() {
-        let written = write_repeated(out, end, 1, pair(digits[i], digits[i + 1]));
-        if !written.is_all {
-            return written;
-        }
-        end = written.len;
-        i += 2;
-    }
-    Entries {
-        len: end,
-        is_all: i == digits.len(),
-    }
+fn pair(high: u8, low: u8) -> Option<u8> {
+    Some(digit(high)? * 16 + digit(low)?)
 }
 
-// Writes the bytes of a piece: COUNT*BYTE, or digits.
-fn write_piece(piece: &[u8], out: &mut [u8], len: usize) -> Entries
-    requires { len ≤ length out.old }
-    ensures { result.len ≤ length out.new }
-{
-    let star = find(piece, 0, STAR);
-    if star + 3 == piece.len() {
-        let count = decimal(&piece[0..star], LARGEST);
-        if count.is_understood {
-            return write_repeated(
-                out,
-                len,
-                count.value as usize,
-                pair(piece[star + 1], piece[star + 2]),
-            );
-        }
+// Appends the bytes of digits, of which there must be an even number.
+fn append_digits(bytes: &mut ArrayVec<u8, BYTES>, digits: &[u8]) -> Option<()> {
+    let (pairs, odd) = digits.as_chunks::<2>();
+    for [high, low] in pairs {
+        bytes.try_push(pair(*high, *low)?).ok()?;
     }
-    write_digits(piece, out, len)
+    odd.is_empty().then_some(())
+}
+
+// Appends the bytes of a piece: COUNT*BYTE, or digits.
+fn append_piece(bytes: &mut ArrayVec<u8, BYTES>, piece: &[u8]) -> Option<()> {
+    let [count @ .., b'*', high, low] = piece else {
+        return append_digits(bytes, piece);
+    };
+    let byte = pair(*high, *low)?;
+    for _ in 0..parse::<u32>(count)? {
+        bytes.try_push(byte).ok()?;
+    }
+    Some(())
 }
 
 // The bytes of the pieces of a group, one after the other.
-pub fn bytes(row: &[u8], group: usize, out: &mut [u8]) -> Entries
-    ensures { result.len ≤ length out.new }
-{
-    let mut len = 0;
-    for i in 0..row.len() {
-        let piece = item(row, group, i);
-        let written = write_piece(piece, out, len);
-        if !written.is_all | (piece.len() == 0) {
-            return written;
-        }
-        len = written.len;
+pub fn bytes(row: &[u8], group: usize) -> Option<ArrayVec<u8, BYTES>> {
+    let mut bytes = ArrayVec::new();
+    for piece in items_of(row, group)? {
+        append_piece(&mut bytes, piece)?;
     }
-    Entries { len, is_all: true }
+    Some(bytes)
 }

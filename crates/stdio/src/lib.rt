@@ -1,22 +1,19 @@
-// Lines of input, and numbers and bytes on an output.
+// Lines of input, and items of a line of output.
 #![tactic(auto)]
 
-ghost use Rattle.std.specs.Prelude.{◌≡◌, ◌≤◌, IfOk, OnErr, length};
+ghost use Rattle.std.specs.Prelude.{◌≡◌, ◌≤◌, IfOk, IfSome, OnErr, length};
 
-pub mod print;
+mod print;
 
+pub use print::{Numbers, Runs};
 use std::io;
 use std::io::Read;
 
 const NEWLINE: u8 = b'\n';
 
-// The next line: how many of its bytes were stored, whether it has more, and whether there was none.
-#[derive(Drop)]
-pub struct Line {
-    pub len: usize,
-    pub is_too_long: bool,
-    pub is_missing: bool,
-}
+// A line has more bytes than the buffer that it is read into.
+#[derive(Clone, Copy, Debug, PartialEq, Eq)]
+pub struct TooLong;
 
 // One byte for each read, so that nothing of the input is kept between lines.
 fn next_byte<R: Read>(input: &mut R) -> io::Result<Option<u8>> {
@@ -30,38 +27,33 @@ fn put(line: &mut [u8], at: usize, byte: u8) {
     }
 }
 
-// A line of `size` bytes, of which the first are in a buffer.
-fn line_in(line: &[u8], size: usize, is_missing: bool) -> Line
-    ensures { result.len ≤ length line.now }
+// The length of a line of `size` bytes, of which the first are in a buffer.
+fn length_in(line: &[u8], size: usize) -> Result<usize, TooLong>
+    ensures { IfOk result (λ len. len ≤ length line.now) }
 {
     if size > line.len() {
-        return Line {
-            len: line.len(),
-            is_too_long: true,
-            is_missing,
-        };
+        return Err(TooLong);
     }
-    Line {
-        len: size,
-        is_too_long: false,
-        is_missing,
-    }
+    Ok(size)
 }
 
-// Reads the next line into a buffer, without its newline. A line that is longer than the buffer is read to its end.
-// Nothing says that a line ends, so its bytes are counted. Where a read fails, the buffer may hold a part of the line.
-pub fn read_line<R: Read>(input: &mut R, line: &mut [u8]) -> io::Result<Line>
-    ensures found { IfOk result (λ found. found.len ≤ length line.new) }
+// Reads the next line into a buffer, without its newline, and gives its length; `None` where the input has ended. A line
+// that is longer than the buffer is read to its end. Nothing says that a line ends, so its bytes are counted. Where a read
+// fails, the buffer may hold a part of the line. The answer is a length and no part of the buffer, since the clause
+// `failed` speaks of the buffer after the call, which a borrowed part would hide.
+pub fn read_line<R: Read>(
+    input: &mut R,
+    line: &mut [u8],
+) -> io::Result<Option<Result<usize, TooLong>>>
+    ensures found { IfOk result (λ found. IfSome found (λ read. IfOk read (λ len. len ≤ length line.new))) }
     ensures failed { OnErr result (length line.new ≡ length line.old) }
 {
-    let mut size: usize = 0;
-    while size < usize::MAX {
+    for size in 0..usize::MAX {
         match next_byte(input)? {
-            None => return Ok(line_in(line, size, size == 0)),
-            Some(NEWLINE) => return Ok(line_in(line, size, false)),
+            None if size == 0 => return Ok(None),
+            None | Some(NEWLINE) => return Ok(Some(length_in(line, size))),
             Some(byte) => put(line, size, byte),
         }
-        size += 1;
     }
-    Ok(line_in(line, size, true))
+    Ok(None)
 }

@@ -1,64 +1,28 @@
-// Text, and items of a line, on an output. An item is a number, a run of bytes or a `;`, and stands after a blank.
-ghost use Rattle.std.specs.Prelude.{◌<◌, ◌≤◌, length};
+// Items of a line, each of which stands after a blank.
+use std::fmt;
 
-use std::io;
-use std::io::Write;
+// Each number as an item.
+#[derive(Clone, Copy)]
+pub struct Numbers<'a>(pub &'a [u32]);
 
-pub fn text<W: Write>(out: &mut W, s: &[u8]) -> io::Result<()> {
-    out.write_all(s)
-}
-
-pub fn newline<W: Write>(out: &mut W) -> io::Result<()> {
-    text(out, b"\n")
-}
-
-pub fn line<W: Write>(out: &mut W, s: &[u8]) -> io::Result<()> {
-    text(out, s)?;
-    newline(out)
-}
-
-// Between two groups.
-pub fn semicolon<W: Write>(out: &mut W) -> io::Result<()> {
-    text(out, b" ;")
-}
-
-pub fn number<W: Write>(out: &mut W, n: u64) -> io::Result<()> {
-    write!(out, " {n}")
-}
-
-pub fn signed<W: Write>(out: &mut W, z: i64) -> io::Result<()> {
-    write!(out, " {z}")
-}
-
-pub fn numbers<W: Write>(out: &mut W, list: &[u32]) -> io::Result<()> {
-    for n in list {
-        number(out, u64::from(*n))?;
+impl fmt::Display for Numbers<'_> {
+    fn fmt<W: fmt::Write>(&self, f: &mut fmt::Formatter<W>) -> fmt::Result {
+        for number in self.0 {
+            write!(f, " {number}")?;
+        }
+        Ok(())
     }
-    Ok(())
 }
 
 // Each longest run of equal bytes as COUNT*BYTE, the byte in hexadecimal.
-pub fn bytes<W: Write>(out: &mut W, list: &[u8]) -> io::Result<()> {
-    let mut from = 0;
-    while from < list.len() {
-        let end = run_end(list, from);
-        number(out, (end - from) as u64)?;
-        write!(out, "*{:02x}", list[from])?;
-        from = end;
-    }
-    Ok(())
-}
+#[derive(Clone, Copy)]
+pub struct Runs<'a>(pub &'a [u8]);
 
-// Where the run of equal bytes that begins at a place ends.
-fn run_end(list: &[u8], from: usize) -> usize
-    requires { from < length list.now }
-    ensures { (from < result) × (result ≤ length list.now) }
-{
-    let byte = list[from];
-    for at in from + 1..list.len() {
-        if list[at] != byte {
-            return at;
+impl fmt::Display for Runs<'_> {
+    fn fmt<W: fmt::Write>(&self, f: &mut fmt::Formatter<W>) -> fmt::Result {
+        for run in self.0.chunk_by(|one, next| one == next) {
+            write!(f, " {}*{:02x}", run.len(), run[0])?;
         }
+        Ok(())
     }
-    list.len()
 }
