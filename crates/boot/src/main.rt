@@ -1,7 +1,7 @@
 // The boot run of document 01: after each call a line with the state and the number of handled events.
 #![tactic(auto)]
 
-use connection::{Connection, Event, codes, fresh, step};
+use connection::{Connection, Event, Lists, Token, codes, fresh, step};
 use std::io;
 use std::io::Write;
 
@@ -52,10 +52,12 @@ fn event(code: u32, tag: u32) -> Event {
         tag,
         timer: 0,
         bit: 0,
-        verdict: true,
-        margin: 0,
-        expiry: EXPIRY,
-        now: NOW,
+        token: Token {
+            verdict: true,
+            margin: 0,
+            expiry: EXPIRY,
+            now: NOW,
+        },
     }
 }
 
@@ -70,10 +72,12 @@ fn call<W: Write>(
         before,
         event,
         payload,
-        &[7, 3],
-        &[3, 7],
-        &[3],
-        &[3, 7],
+        Lists {
+            our_verifiers: &[7, 3],
+            peer_provers: &[3, 7],
+            peer_verifiers: &[3],
+            our_provers: &[3, 7],
+        },
         cache,
     );
     let after = outcome.connection;

@@ -1,8 +1,9 @@
 -- Document 01, "What the machine covers": the arguments of a call, and what the step reads of them.
-use Rattle.std.specs.Prelude.{ℕ, Bool, ◌&&◌, cond, List, [], ◌∷◌, eqb, ltb, length}
+use Rattle.std.specs.Prelude.{ℕ, Bool, ◌&&◌, cond, List, [], ◌∷◌, eqb, ltb, length, is_some}
 use Rattle.suites.specs.Answer.{Answer, not_found, chosen}
 use Rattle.suites.specs.Choice.{choice}
 use Rattle.suites.specs.Numbers.{suite_from}
+use Rattle.suites.specs.declared.Chosen.{Chosen}
 use Rattle.suites.specs.declared.Lists.{Lists}
 use Rattle.record.specs.Limits.{Limits}
 use Rattle.table.specs.Sets.{is_in}
@@ -43,6 +44,10 @@ carries_payload = is_in (2 ∷ 6 ∷ 9 ∷ 15 ∷ 16 ∷ 18 ∷ [])
 abbrev pub suites_of : ℕ → List ℕ → List ℕ → List ℕ → List ℕ → Answer
 suites_of code our_verifiers peer_provers peer_verifiers our_provers =
     cond (eqb code 11) (choice our_verifiers peer_provers peer_verifiers our_provers) (chosen not_found not_found)
+
+-- Whether both suites are found.
+abbrev pub both_found : Chosen → Bool
+both_found suites = is_some suites.verifier && is_some suites.prover
 
 -- The length of a payload. One that is too long counts as 0: its event is refused, or carries no payload and this is not used.
 abbrev pub short_length : Limits → ℕ → ℕ
