@@ -84,12 +84,12 @@ pub fn step_flat(
     answer
 }
 
-// Copies the payload to the first bytes of the cache.
+// Copies the payload to the first bytes of the cache. `copy_from_slice` calls memmove, and the archive calls nothing.
 fn store(cache: &mut [u8], payload: &[u8])
     requires { length payload.now ≤ length cache.old }
     ensures { cache.new ≡ stored payload.now cache.old }
 {
-    for i in 0..payload.len() {
-        cache[i] = payload[i];
+    for (i, byte) in payload.iter().enumerate() {
+        cache[i] = *byte;
     }
 }
