@@ -1,7 +1,7 @@
 -- Request #101, "Joined to the step": the event that a message is.
 use Rattle.std.specs.Prelude.{ℕ, ◌||◌, cond, [], ◌∷◌, eqb, get_or}
 use Rattle.event.specs.declared.Event.{Event}
-use Rattle.arrival.specs.declared.Token.{Token}
+use Rattle.token.specs.declared.Token.{Token}
 
 -- The codes of the messages 1 to 9. Any other number gets 24, which is no event's code.
 abbrev pub code_of : ℕ → ℕ
@@ -27,10 +27,7 @@ event_with code bit token = record {
   tag = 0;
   timer = 0;
   bit = bit;
-  verdict = token.verdict;
-  margin = token.margin;
-  expiry = token.expiry;
-  now = token.now;
+  token = token;
 }
 
 -- The event that a message is.

@@ -2,25 +2,16 @@
 #![tactic(auto)]
 
 ghost use Rattle.std.specs.Prelude.{◌≡◌};
-ghost use Rattle.arrival.specs.Arrival.{also_of, code_of, event_of, event_with};
+ghost use Rattle.arrival.specs.Arrival.{also_of, code_of, event_of};
 
 use event::Event;
 use fields::schema;
 use protocol::refusals;
 use table::codes;
+use token::Token;
 
-// A code that no event has: a step with it is refused.
+// A code that no event has: a step with it is refused. The C interface gives every number an event, so it has a code for each.
 const NO_EVENT: u32 = 24;
-
-// What the host says of a token: its verdict on the signature, how many seconds before its expiry it counts as spent,
-// when it expires and the time now, in seconds.
-#[derive(Clone, Copy)]
-pub struct Token {
-    pub verdict: bool,
-    pub margin: u32,
-    pub expiry: i64,
-    pub now: i64,
-}
 
 // The code of the event that a message is, by the message's number.
 pub fn code_of(number: u32) -> u32
@@ -44,21 +35,12 @@ pub fn code_of(number: u32) -> u32
 pub fn event_of(number: u32, bit: u32, token: Token) -> Event
     ensures { result ≡ event_of number bit token }
 {
-    event_with(code_of(number), bit, token)
-}
-
-fn event_with(code: u32, bit: u32, token: Token) -> Event
-    ensures { result ≡ event_with code bit token }
-{
     Event {
-        code,
+        code: code_of(number),
         tag: 0,
         timer: 0,
         bit,
-        verdict: token.verdict,
-        margin: token.margin,
-        expiry: token.expiry,
-        now: token.now,
+        token,
     }
 }
 

@@ -1,7 +1,7 @@
 // The boot run of document 01: after each call a line with the state and the number of handled events.
 #![tactic(auto)]
 
-use connection::{Event, codes, fresh, step};
+use connection::{Event, Lists, Token, codes, fresh, step};
 use std::io;
 use std::io::Write;
 
@@ -23,6 +23,13 @@ const CALLS: [(u32, u32, &[u8]); 10] = [
     (codes::RA_PROVER_OK, 6, &[]),
 ];
 
+const LISTS: Lists<'static> = Lists {
+    our_verifiers: &[7, 3],
+    peer_provers: &[3, 7],
+    peer_verifiers: &[3],
+    our_provers: &[3, 7],
+};
+
 fn main(rt: HostRuntime) -> io::Result<()> {
     run(&mut rt.stdout())
 }
@@ -36,10 +43,7 @@ fn run<W: Write>(out: &mut W) -> io::Result<()> {
             connection,
             event(code, tag),
             payload,
-            &[7, 3],
-            &[3, 7],
-            &[3],
-            &[3, 7],
+            LISTS,
             &mut cache,
         );
         connection = outcome.connection;
@@ -55,9 +59,11 @@ fn event(code: u32, tag: u32) -> Event {
         tag,
         timer: 0,
         bit: 0,
-        verdict: true,
-        margin: 0,
-        expiry: EXPIRY,
-        now: NOW,
+        token: Token {
+            verdict: true,
+            margin: 0,
+            expiry: EXPIRY,
+            now: NOW,
+        },
     }
 }

@@ -3,7 +3,7 @@ use Rattle.std.specs.Prelude.{ℕ, ◌+◌, ◌≤◌, ◌≡◌, cond, List, []
 use Rattle.flat.specs.Flat.{record_in}
 use Rattle.arrival.specs.Arrival.{code_of}
 use Rattle.inbound.specs.Received.{given, received}
-use Rattle.arrival.specs.declared.Token.{Token}
+use Rattle.token.specs.declared.Token.{Token}
 use Rattle.protocol.specs.Step.{result_with, unchanged}
 use Rattle.protocol.specs.declared.Answer.TheVariants.{Refused}
 use Rattle.messages.specs.Flat.{reading_by}

@@ -19,11 +19,10 @@ ghost use Rattle.messages.specs.Outer.{reading_of};
 ghost use Rattle.fields.specs.Contents.{provers_after, verifiers_after};
 
 use arrival::code_of;
-use connection::{fresh, step_flat};
+use connection::{Lists, fresh, step_flat};
 use flat::numbers_of;
-use interface::{FlatEvent, FlatToken, answer, choice, event_in, event_of, refused_as, time};
+use interface::{FlatEvent, FlatToken, answer, choice, event_in, refused_as, time};
 use messages::{FlatMessage, read_flat};
-use suites::choose;
 use token::seconds_left;
 
 // The record of a new connection.
@@ -54,7 +53,13 @@ pub fn menhotrac_choose_suites(
     ensures value { result ≡ (choice our_verifiers.now peer_provers.now peer_verifiers.now our_provers.now).refusal }
     ensures chosen_after { chosen.new ≡ chosen_of (choice our_verifiers.now peer_provers.now peer_verifiers.now our_provers.now) }
 {
-    let made = choose(our_verifiers, peer_provers, peer_verifiers, our_provers);
+    let lists = Lists {
+        our_verifiers,
+        peer_provers,
+        peer_verifiers,
+        our_provers,
+    };
+    let made = lists.choose();
     *chosen = choice::numbers_in(made);
     choice::refusal_in(made)
 }
@@ -82,12 +87,14 @@ pub fn menhotrac_step(
     let answer = step_flat(
         connection,
         refused_as(event),
-        event_of(event),
+        event.into(),
         payload,
-        our_verifiers,
-        peer_provers,
-        peer_verifiers,
-        our_provers,
+        Lists {
+            our_verifiers,
+            peer_provers,
+            peer_verifiers,
+            our_provers,
+        },
         cache,
         actions,
     );

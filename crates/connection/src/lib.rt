@@ -6,7 +6,7 @@
 
 ghost use Rattle.std.specs.Prelude.{◌≡◌, ◌≤◌, length};
 ghost use Rattle.record.specs.Limits.{limits};
-ghost use Rattle.event.specs.Call.{call_of};
+ghost use Rattle.event.specs.Call.{call_with};
 ghost use Rattle.protocol.specs.Block.{stored};
 ghost use Rattle.protocol.specs.Step.{refusal_number, refusal_of, result_of};
 ghost use Rattle.connection.specs.Also.{result_also};
@@ -20,22 +20,21 @@ use flat::{actions_in, numbers_of, record_in, slots_of};
 pub use outcome::{part, refusal_number};
 pub use protocol::{Actions, Answer, Outcome, orders, refusals};
 pub use record::{Connection, fresh};
+pub use suites::Lists;
 pub use table::{codes, states};
+pub use token::Token;
 
 // One step. A handled `UPPER_SEND_DATA` stores its payload in the cache; nothing else writes it.
 pub fn step(
     connection: Connection,
     event: Event,
     payload: &[u8],
-    our_verifiers: &[u32],
-    peer_provers: &[u32],
-    peer_verifiers: &[u32],
-    our_provers: &[u32],
+    lists: Lists<'_>,
     cache: &mut [u8],
 ) -> Outcome
-    ensures value { result ≡ (result_of limits connection (call_of event payload.now our_verifiers.now peer_provers.now peer_verifiers.now our_provers.now) cache.old).outcome }
-    ensures answer_value { refusal_number result.answer ≡ refusal_of limits connection (call_of event payload.now our_verifiers.now peer_provers.now peer_verifiers.now our_provers.now) (length cache.old) }
-    ensures cache_after { cache.new ≡ (result_of limits connection (call_of event payload.now our_verifiers.now peer_provers.now peer_verifiers.now our_provers.now) cache.old).cache }
+    ensures value { result ≡ (result_of limits connection (call_with event payload.now lists.entry) cache.old).outcome }
+    ensures answer_value { refusal_number result.answer ≡ refusal_of limits connection (call_with event payload.now lists.entry) (length cache.old) }
+    ensures cache_after { cache.new ≡ (result_of limits connection (call_with event payload.now lists.entry) cache.old).cache }
 {
     let mut numbers = numbers_of(connection);
     let mut slots = slots_of(NO_ACTIONS);
@@ -44,10 +43,7 @@ pub fn step(
         refusals::NONE,
         event,
         payload,
-        our_verifiers,
-        peer_provers,
-        peer_verifiers,
-        our_provers,
+        lists,
         cache,
         &mut slots,
     );
@@ -65,26 +61,17 @@ pub fn step_flat(
     also: u32,
     event: Event,
     payload: &[u8],
-    our_verifiers: &[u32],
-    peer_provers: &[u32],
-    peer_verifiers: &[u32],
-    our_provers: &[u32],
+    lists: Lists<'_>,
     cache: &mut [u8],
     slots: &mut [u32; 16],
 ) -> Answer
-    ensures value { result ≡ (result_also also (record_in numbers.old) (call_of event payload.now our_verifiers.now peer_provers.now peer_verifiers.now our_provers.now) cache.old).outcome.answer }
-    ensures numbers_after { record_in numbers.new ≡ (result_also also (record_in numbers.old) (call_of event payload.now our_verifiers.now peer_provers.now peer_verifiers.now our_provers.now) cache.old).outcome.connection }
-    ensures slots_after { slots.new ≡ slots_of (result_also also (record_in numbers.old) (call_of event payload.now our_verifiers.now peer_provers.now peer_verifiers.now our_provers.now) cache.old).outcome.actions }
-    ensures cache_after { cache.new ≡ (result_also also (record_in numbers.old) (call_of event payload.now our_verifiers.now peer_provers.now peer_verifiers.now our_provers.now) cache.old).cache }
+    ensures value { result ≡ (result_also also (record_in numbers.old) (call_with event payload.now lists.entry) cache.old).outcome.answer }
+    ensures numbers_after { record_in numbers.new ≡ (result_also also (record_in numbers.old) (call_with event payload.now lists.entry) cache.old).outcome.connection }
+    ensures slots_after { slots.new ≡ slots_of (result_also also (record_in numbers.old) (call_with event payload.now lists.entry) cache.old).outcome.actions }
+    ensures cache_after { cache.new ≡ (result_also also (record_in numbers.old) (call_with event payload.now lists.entry) cache.old).cache }
 {
     let code = event.code;
-    let suites = choose_suites(
-        code,
-        our_verifiers,
-        peer_provers,
-        peer_verifiers,
-        our_provers,
-    );
+    let suites = choose_suites(code, lists);
     let input = read(event, payload.len(), cache.len(), suites);
     let connection = record_in(numbers);
     let answer = decide(numbers, slots, also, connection, code, input);
@@ -97,12 +84,12 @@ pub fn step_flat(
     answer
 }
 
-// Copies the payload to the first bytes of the cache.
+// Copies the payload to the first bytes of the cache. `copy_from_slice` calls memmove, and the archive calls nothing.
 fn store(cache: &mut [u8], payload: &[u8])
     requires { length payload.now ≤ length cache.old }
     ensures { cache.new ≡ stored payload.now cache.old }
 {
-    for i in 0..payload.len() {
-        cache[i] = payload[i];
+    for (i, byte) in payload.iter().enumerate() {
+        cache[i] = *byte;
     }
 }

@@ -1,6 +1,6 @@
 -- Document 01, "What the machine covers" and "Shortcuts that look right", and request #104: the kind of an event, which its code fixes.
 -- A field is read only from the kind that carries it. Payload and suite lists are slices: see `Call`.
-use Rattle.std.specs.Prelude.{ℕ, Bool, false, cond, List, [], ◌∷◌, eqb, get_or}
+use Rattle.std.specs.Prelude.{ℕ, Bool, false, cond, List, [], ◌∷◌, eqb, get_or, Option, None, Some}
 use Rattle.record.specs.Timer.{Timer, H, HP, HV}
 use Rattle.token.specs.Answer.{time_left}
 use Rattle.token.specs.Good.{good, good_seconds}
@@ -15,7 +15,7 @@ kinds event =
     let tagged = Tagged event.tag in
     let timeout = HandshakeTimeout event.tag event.timer in
     let bit = Bit event.bit in
-    let token = Token event.verdict event.margin event.expiry event.now in
+    let token = Token event.token in
     Plain ∷ Plain ∷ Plain ∷ Plain  -- 0 to 3
     ∷ tagged ∷ tagged ∷ tagged ∷ tagged ∷ tagged ∷ tagged  -- 4 to 9
     ∷ Plain ∷ token ∷ Plain ∷ token  -- 10 to 13
@@ -58,9 +58,13 @@ fields_of Plain = fields 0 0 0 false 0 false
 fields_of (Tagged tag) = fields tag 0 0 false 0 false
 fields_of (HandshakeTimeout tag timer) = fields tag timer 0 false 0 false
 fields_of (Bit bit) = fields 0 0 bit false 0 false
-fields_of (Token verdict margin expiry now) =
-    let left = (time_left expiry now margin).seconds in
-    fields 0 0 0 (good verdict left) (good_seconds verdict left) (margin_too_large margin)
+fields_of (Token token) =
+    let left = (time_left token.expiry token.now token.margin).seconds in
+    fields 0 0 0 (good token.verdict left) (good_seconds token.verdict left) (margin_too_large token.margin)
+
+-- The seconds left as the code reads them: those of a good token alone.
+abbrev pub seconds_of : Fields → Option ℕ
+seconds_of fields = cond fields.is_good (Some fields.seconds) None
 
 -- The handshake timer that event 20 names: 0 H, 1 HP, 2 HV.
 abbrev pub named : ℕ → Timer

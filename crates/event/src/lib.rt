@@ -4,17 +4,16 @@
 
 ghost use Rattle.std.specs.Prelude.{◌≡◌, ◌&&◌, ltb};
 ghost use Rattle.record.specs.Limits.{limits};
-ghost use Rattle.event.specs.Kind.{kind_of, fields_of};
-ghost use Rattle.event.specs.Call.{chosen_suites, suites_of, carries_payload, short_length, input_by};
-ghost use Rattle.event.specs.TimeoutTag.{timeout_tag};
+ghost use Rattle.event.specs.Kind.{kind_of, fields_of, seconds_of};
+ghost use Rattle.event.specs.Call.{suites_of, carries_payload, short_length, input_by};
 ghost use Rattle.suites.specs.Numbers.{answer_of};
 
-use suites::{Choice, any_too_long, choose, is_found, number_in};
+use suites::{Chosen, Lists, TooLong};
 use table::codes::{
     ACK_TIMEOUT, DAT_TIMEOUT, HANDSHAKE_TIMEOUT, RA_PROVER_MSG, RA_VERIFIER_MSG, RA_VERIFIER_OK,
     SC_ACK, SC_DAT, SC_DATA, SC_HELLO, SC_RA_PROVER, SC_RA_VERIFIER, UPPER_SEND_DATA,
 };
-use token::{good_seconds, margin_too_large};
+use token::{Token, margin_too_large};
 
 pub mod timers;
 
@@ -29,13 +28,7 @@ pub struct Event {
     // Of a handshake timeout; the names are in `timers`.
     pub timer: u32,
     pub bit: u32,
-    // The host's verdict on the token.
-    pub verdict: bool,
-    // How many seconds before its expiry the token counts as spent, 0 to 300.
-    pub margin: u32,
-    // The token's expiry and the time now, in seconds.
-    pub expiry: i64,
-    pub now: i64,
+    pub token: Token,
 }
 
 // What events carry besides their payload and their suite lists.
@@ -43,33 +36,15 @@ pub struct Event {
 pub enum EventKind {
     Plain,
     Tagged(u32),
-    HandshakeTimeout {
-        tag: u32,
-        timer: u32,
-    },
+    HandshakeTimeout { tag: u32, timer: u32 },
     Bit(u32),
-    Token {
-        verdict: bool,
-        margin: u32,
-        expiry: i64,
-        now: i64,
-    },
+    Token(Token),
 }
 
-// The suites of a hello, whether both are found, and whether a list is too long.
-#[derive(Clone, Copy)]
-pub struct Suites {
-    pub too_long: bool,
-    pub found: bool,
-    pub verifier: u32,
-    pub prover: u32,
-}
-
-const NO_SUITES: Suites = Suites {
-    too_long: false,
-    found: false,
-    verifier: 0,
-    prover: 0,
+// Nothing is chosen.
+const NO_SUITES: Chosen = Chosen {
+    verifier: None,
+    prover: None,
 };
 
 // What the step reads of a call, besides the code.
@@ -78,13 +53,16 @@ pub struct Input {
     pub tag: u32,
     pub timer: u32,
     pub bit: u32,
-    pub good: bool,
-    pub seconds: u32,
+    // Those of a good token.
+    pub seconds: Option<u32>,
     pub margin_too_large: bool,
+    // As a Result the length would still be 0 where an event that carries no payload is given one that is too long.
     pub payload_len: u32,
     pub payload_too_long: bool,
     pub cache_too_short: bool,
-    pub suites: Suites,
+    // As one Result each reader of a suite would first take apart a choice that the faults have refused.
+    pub list_too_long: bool,
+    pub suites: Chosen,
 }
 
 // The kind that an event's code fixes.
@@ -95,12 +73,7 @@ fn kind_of(event: Event) -> EventKind
     let code = event.code;
     match code {
         RA_VERIFIER_OK..=RA_PROVER_MSG => EventKind::Tagged(event.tag),
-        SC_HELLO | SC_DAT => EventKind::Token {
-            verdict: event.verdict,
-            margin: event.margin,
-            expiry: event.expiry,
-            now: event.now,
-        },
+        SC_HELLO | SC_DAT => EventKind::Token(event.token),
         SC_DATA | SC_ACK => EventKind::Bit(event.bit),
         HANDSHAKE_TIMEOUT => EventKind::HandshakeTimeout {
             tag: event.tag,
@@ -111,20 +84,11 @@ fn kind_of(event: Event) -> EventKind
     }
 }
 
-// The tag of a driver's report or a timeout.
+// The tag of a driver's report or a timeout. A field that a kind does not carry counts as 0, by `fields_of`.
 fn tag_in(kind: EventKind) -> u32
     ensures { result ≡ (fields_of kind).tag }
 {
-    let EventKind::Tagged(tag) = kind else {
-        return timeout_tag_in(kind);
-    };
-    tag
-}
-
-fn timeout_tag_in(kind: EventKind) -> u32
-    ensures { result ≡ timeout_tag kind }
-{
-    let EventKind::HandshakeTimeout { tag, timer: _ } = kind else {
+    let (EventKind::Tagged(tag) | EventKind::HandshakeTimeout { tag, timer: _ }) = kind else {
         return 0;
     };
     tag
@@ -151,73 +115,34 @@ fn bit_in(kind: EventKind) -> u32
 }
 
 // The seconds left of a good token.
-fn seconds_in(kind: EventKind) -> u32
-    ensures { result ≡ (fields_of kind).seconds }
+#[tactic(auto, using(crate::proofs::Opening::if_good))]
+fn seconds_in(kind: EventKind) -> Option<u32>
+    ensures { result ≡ seconds_of (fields_of kind) }
 {
-    let EventKind::Token {
-        verdict,
-        margin,
-        expiry,
-        now,
-    } = kind
-    else {
-        return 0;
+    let EventKind::Token(token) = kind else {
+        return None;
     };
-    good_seconds(verdict, expiry, now, margin)
+    token.good_seconds()
 }
 
 // Whether a token's margin is too large.
 fn margin_too_large_in(kind: EventKind) -> bool
     ensures { result ≡ (fields_of kind).large_margin }
 {
-    let EventKind::Token {
-        verdict: _,
-        margin,
-        expiry: _,
-        now: _,
-    } = kind
-    else {
+    let EventKind::Token(token) = kind else {
         return false;
     };
-    margin_too_large(margin)
+    margin_too_large(token.margin)
 }
 
 // The suites of a hello; of another event the lists are not read.
-pub fn choose_suites(
-    code: u32,
-    our_verifiers: &[u32],
-    peer_provers: &[u32],
-    peer_verifiers: &[u32],
-    our_provers: &[u32],
-) -> Suites
-    ensures { result ≡ suites_of code our_verifiers.now peer_provers.now peer_verifiers.now our_provers.now }
+pub fn choose_suites(code: u32, lists: Lists<'_>) -> Result<Chosen, TooLong>
+    ensures { answer_of result ≡ suites_of code lists.entry.our_verifiers.now lists.entry.peer_provers.now lists.entry.peer_verifiers.now lists.entry.our_provers.now }
 {
     if code != SC_HELLO {
-        return NO_SUITES;
+        return Ok(NO_SUITES);
     }
-    let too_long = any_too_long(our_verifiers, peer_provers, peer_verifiers, our_provers);
-    let choice = choose(our_verifiers, peer_provers, peer_verifiers, our_provers);
-    suites_in(too_long, choice)
-}
-
-// The suites of a choice.
-fn suites_in(too_long: bool, choice: Choice) -> Suites
-    ensures { result ≡ chosen_suites too_long (answer_of choice) }
-{
-    let Choice::Chosen { verifier, prover } = choice else {
-        return Suites {
-            too_long,
-            found: false,
-            verifier: 0,
-            prover: 0,
-        };
-    };
-    Suites {
-        too_long,
-        found: is_found(verifier) & is_found(prover),
-        verifier: number_in(verifier),
-        prover: number_in(prover),
-    }
+    lists.choose()
 }
 
 // Nested as the list of the definition is.
@@ -248,22 +173,26 @@ fn payload_too_long(code: u32, len: usize) -> bool
 }
 
 // What the step reads of a call.
-#[tactic(auto, using(crate::proofs::Opening::good_seconds), unfolding(crate::specs::Call::input_by))]
-pub fn read(event: Event, payload_len: usize, cache_len: usize, suites: Suites) -> Input
-    ensures { result ≡ input_by limits event payload_len cache_len suites }
+#[tactic(auto, using(crate::proofs::Opening::too_long_read, crate::proofs::Opening::suites_read), unfolding(crate::specs::Call::input_by))]
+pub fn read(
+    event: Event,
+    payload_len: usize,
+    cache_len: usize,
+    suites: Result<Chosen, TooLong>,
+) -> Input
+    ensures { result ≡ input_by limits event payload_len cache_len (answer_of suites) }
 {
     let kind = kind_of(event);
-    let seconds = seconds_in(kind);
     Input {
         tag: tag_in(kind),
         timer: timer_in(kind),
         bit: bit_in(kind),
-        good: seconds > 0,
-        seconds,
+        seconds: seconds_in(kind),
         margin_too_large: margin_too_large_in(kind),
         payload_len: short_len(payload_len),
         payload_too_long: payload_too_long(event.code, payload_len),
         cache_too_short: cache_len < MAX_PAYLOAD,
-        suites,
+        list_too_long: suites.is_err(),
+        suites: suites.unwrap_or(NO_SUITES),
     }
 }

@@ -31,7 +31,7 @@ pub fn lowest_fault(connection: Connection, code: u32, input: Input) -> u32
     if input.cache_too_short {
         return refusals::CACHE_TOO_SHORT;
     }
-    if input.suites.too_long {
+    if input.list_too_long {
         return refusals::LIST_TOO_LONG;
     }
     if !well_formed(connection) {

@@ -10,7 +10,7 @@ use Rattle.fields.specs.Message.{Message}
 use Rattle.messages.specs.Outer.{reading_of}
 use Rattle.messages.specs.Numbers.{part_of}
 use Rattle.arrival.specs.Arrival.{also_of, event_of}
-use Rattle.arrival.specs.declared.Token.{Token}
+use Rattle.token.specs.declared.Token.{Token}
 
 -- What the host gives with the bytes: what it says of the token, what its interface refuses of the token or 0 (`result_also`),
 -- and its own lists.

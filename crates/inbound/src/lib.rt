@@ -6,8 +6,8 @@ ghost use Rattle.flat.specs.Flat.{record_in, slots_of};
 ghost use Rattle.messages.specs.Outer.{reading_of};
 ghost use Rattle.inbound.specs.Received.{first_entries, given, place_in, received};
 
-use arrival::{Token, also_of, event_of};
-use connection::{Answer, refusals, step_flat};
+use arrival::{also_of, event_of};
+use connection::{Answer, Lists, Token, refusals, step_flat};
 use effects::NO_ACTIONS;
 use flat::slots_of;
 use messages::{Span, part, read_flat};
@@ -71,10 +71,12 @@ pub fn receive(
         also_of(message.number, token_refusal),
         event_of(message.number, message.bit, token),
         payload,
-        our_verifiers,
-        first(&provers, message.provers),
-        first(&verifiers, message.verifiers),
-        our_provers,
+        Lists {
+            our_verifiers,
+            peer_provers: first(&provers, message.provers),
+            peer_verifiers: first(&verifiers, message.verifiers),
+            our_provers,
+        },
         cache,
         slots,
     );

@@ -11,10 +11,7 @@ event_of flat = record {
   tag = flat.tag;
   timer = flat.timer;
   bit = flat.bit;
-  verdict = eqb flat.verdict 1;
-  margin = flat.margin;
-  expiry = flat.expiry;
-  now = flat.now;
+  token = record { verdict = eqb flat.verdict 1; margin = flat.margin; expiry = flat.expiry; now = flat.now };
 }
 
 -- An event with a bit, and with what the host says of the token. A message carries no tag and names no timer.

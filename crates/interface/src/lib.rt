@@ -13,6 +13,7 @@ pub mod time;
 use event::Event;
 use protocol::refusals;
 use table::codes;
+use token::Token;
 
 const YES: u32 = 1;
 
@@ -44,18 +45,22 @@ pub struct FlatToken {
 }
 
 // The event of document 01.
-pub fn event_of(flat: FlatEvent) -> Event
-    ensures { result ≡ event_of flat }
-{
-    Event {
-        code: flat.code,
-        tag: flat.tag,
-        timer: flat.timer,
-        bit: flat.bit,
-        verdict: flat.verdict == YES,
-        margin: flat.margin,
-        expiry: flat.expiry,
-        now: flat.now,
+impl From<FlatEvent> for Event {
+    ghost from_gives = { λ flat event. event ≡ event_of flat };
+
+    fn from(flat: FlatEvent) -> Event {
+        Event {
+            code: flat.code,
+            tag: flat.tag,
+            timer: flat.timer,
+            bit: flat.bit,
+            token: Token {
+                verdict: flat.verdict == YES,
+                margin: flat.margin,
+                expiry: flat.expiry,
+                now: flat.now,
+            },
+        }
     }
 }
 

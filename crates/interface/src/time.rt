@@ -3,24 +3,21 @@ ghost use Rattle.std.specs.Prelude.{◌≡◌};
 ghost use Rattle.token.specs.Numbers.{answer_of};
 
 use protocol::refusals;
-use token::TimeLeft;
+use token::MarginTooLarge;
 
 // The number of its refusal, 0 for none.
-pub fn refusal_in(time: TimeLeft) -> u32
+pub fn refusal_in(time: Result<i64, MarginTooLarge>) -> u32
     ensures { result ≡ (answer_of time).refusal }
 {
     match time {
-        TimeLeft::Seconds(_) => refusals::NONE,
-        TimeLeft::MarginTooLarge => refusals::MARGIN_TOO_LARGE,
+        Ok(_) => refusals::NONE,
+        Err(MarginTooLarge) => refusals::MARGIN_TOO_LARGE,
     }
 }
 
 // The seconds, 0 where they are refused.
-pub fn seconds_in(time: TimeLeft) -> i64
+pub fn seconds_in(time: Result<i64, MarginTooLarge>) -> i64
     ensures { result ≡ (answer_of time).seconds }
 {
-    let TimeLeft::Seconds(seconds) = time else {
-        return 0;
-    };
-    seconds
+    time.unwrap_or(0)
 }

@@ -48,9 +48,9 @@ pub fn open_connection(connection: Connection, input: Input, to: u32, number: u3
     actions.hp = orders::START;
     actions.hv = orders::START;
     actions.dat = orders::START;
-    actions.dat_seconds = input.seconds;
-    actions.verifier_suite = input.suites.verifier;
-    actions.prover_suite = input.suites.prover;
+    actions.dat_seconds = input.seconds.unwrap_or(0);
+    actions.verifier_suite = input.suites.verifier.unwrap_or(0);
+    actions.prover_suite = input.suites.prover.unwrap_or(0);
     Outcome {
         answer: Answer::Handled,
         connection: after,

@@ -13,7 +13,7 @@ use Rattle.event.specs.declared.Event.{Event}
 
 -- An event with these fields; the others are 0, the margin too, which document 01's cases don't have.
 abbrev pub event : (code tag bit : ℕ) (verdict : Bool) (expiry now : ℤ) → Event
-event code tag bit verdict expiry now = record { code = code; tag = tag; timer = 0; bit = bit; verdict = verdict; margin = 0; expiry = expiry; now = now }
+event code tag bit verdict expiry now = record { code = code; tag = tag; timer = 0; bit = bit; token = record { verdict = verdict; margin = 0; expiry = expiry; now = now } }
 
 -- A call without payload and lists.
 abbrev pub plain : (code tag bit : ℕ) → Call

@@ -107,7 +107,7 @@ pub fn renew_token(connection: Connection, input: Input, to: u32, number: u32) -
     actions.h = orders::CANCEL;
     actions.hv = orders::START;
     actions.dat = orders::START;
-    actions.dat_seconds = input.seconds;
+    actions.dat_seconds = input.seconds.unwrap_or(0);
     Outcome {
         answer: Answer::Handled,
         connection: after,

@@ -1,25 +1,22 @@
 -- What a part of a list finds: the rest from one entry to the next, a group of entries, and the rest behind a group.
-use mathlib.Core.Path.{◌≡◌, refl}
-use mathlib.Core.Bool.{Bool, true, false, cond, ◌||◌, or_assoc, or-false}
+use mathlib.Core.Path.{◌≡◌, refl, ap, ◌∙◌}
+use mathlib.Core.Bool.{Bool, true, false, cond, ◌||◌, or_assoc}
 use mathlib.Core.List.{List, [], ◌∷◌, ◌++◌}
-use Prim.Native.Nat.{ℕ, zero, suc, ◌+◌, ◌-◌, ◌<◌, ◌≤◌}
+use Prim.Native.Nat.{ℕ, zero, suc, ◌+◌, ◌*◌, ◌<◌, ◌≤◌}
 use native.Mathlib.Numerals.{add-one}
 use native.Mathlib.Omega.{arith}
-use lib.ListN.{length, get_or, take, drop, take-append-drop, length-drop, drop_of_length-le}
-use lib.Seq.{drop-cons, drop-drop, take_all, take-suc}
+use lib.Dec.{eqb}
+use lib.ListN.{length, get_or, take, drop, take-append-drop, drop_of_length-le}
+use lib.Seq.{drop-cons, drop-drop}
+use Rattle.std.proofs.lemmas.Bool.Decides.{nat_tests}
+use Rattle.std.specs.List.{list_any}
+use Rattle.std.specs.Simd.{first_chunks}
 use Rattle.suites.specs.Answer.{Found, found_suite, not_found}
 use Rattle.suites.specs.Choice.{find}
 
 cond_found : (b : Bool) (suite : ℕ) (f : Found) → (cond b (found_suite suite) f).found ≡ b || f.found
 cond_found true suite f = refl
 cond_found false suite f = refl
-
--- A list from a place on, as the code takes it.
-abbrev pub from : List ℕ → ℕ → List ℕ
-from list place = take (length list - place) (drop place list)
-
-from_drop : (list : List ℕ) (place : ℕ) → from list place ≡ drop place list
-from_drop list place = take_all (length list - place) (drop place list) (omega (arith, length-drop place list))
 
 module _ (passes : ℕ → Bool) where
   pub here : (list : List ℕ) (i : ℕ) → i < length list → passes (get_or list i 0) ≡ true → find passes (drop i list) ≡ found_suite (get_or list i 0)
@@ -39,25 +36,39 @@ module _ (passes : ℕ → Bool) where
   append [] b = refl
   append (entry ∷ a) b = simp (cond_found, append a b, or_assoc)
 
-  -- Whether one of the first `n` entries passes, as the code tests them.
-  abbrev any_of : List ℕ → ℕ → Bool
-  any_of list zero = false
-  any_of list (suc n) = any_of list n || passes (get_or list n 0)
-
-  pub any_found : (list : List ℕ) (n : ℕ) → n ≤ length list → any_of list n ≡ (find passes (take n list)).found
-  unfolding find
-  any_found list zero h = refl
-  any_found list (suc n) h = rw (take-suc list n 0 (omega arith), append, cond_found, or-false, any_found list n (omega arith))
-
-  pub rest_found : (list : List ℕ) (i place : ℕ) → i ≡ place → (find passes (drop i list)).found ≡ (find passes (from list place)).found
-  rest_found list i place e = rw (from_drop, e)
-
   module _ (list : List ℕ) (place n : ℕ) where
-    split : (find passes (drop place list)).found ≡ (find passes (take n (from list place))).found || (find passes (drop (place + n) list)).found
-    split = rw (from_drop, ← drop-drop n place list, ← append, take-append-drop)
+    split : (find passes (drop place list)).found ≡ (find passes (take n (drop place list))).found || (find passes (drop (place + n) list)).found
+    split = rw (← drop-drop n place list, ← append, take-append-drop)
 
-    pub among : (find passes (take n (from list place))).found ≡ true → (find passes (drop place list)).found ≡ true
+    pub among : (find passes (take n (drop place list))).found ≡ true → (find passes (drop place list)).found ≡ true
     among t = rw (split, t)
 
-    pub past : (next : ℕ) → place + n ≡ next → (find passes (take n (from list place))).found ≡ false → (find passes (drop place list)).found ≡ (find passes (drop next list)).found
+    pub past : (next : ℕ) → place + n ≡ next → (find passes (take n (drop place list))).found ≡ false → (find passes (drop place list)).found ≡ (find passes (drop next list)).found
     past next e t = rw (split, t, e)
+
+other_way : (a b : ℕ) → eqb a b ≡ eqb b a
+other_way a b = grind (arith, nat_tests)
+
+-- Whether a suite is among entries, as `contains` tests them.
+contained : (suite : ℕ) (list : List ℕ) → list_any (λ entry. eqb entry suite) list ≡ (find (eqb suite) list).found
+unfolding find
+contained suite [] = refl
+contained suite (entry ∷ list) = rw (cond_found, other_way entry suite, contained suite list)
+
+-- The group at a place.
+group_at : (n k i : ℕ) (list : List ℕ) → i < k → get_or (first_chunks n k list) i [] ≡ take n (drop (i * n) list)
+group_at n zero i list h = absurd (omega arith)
+group_at n (suc k) zero list h =
+    let none : 0 ≡ 0 * n = omega arith in
+    ap (λ (m : ℕ). take n (drop m list)) none
+group_at n (suc k) (suc i) list h =
+    group_at n k i (drop n list) (omega arith) ∙ ap (take n) (drop-drop (i * n) n list ∙ ap (λ (m : ℕ). drop m list) (omega arith))
+
+-- Whether a suite is in it.
+pub in_group : (suite k i : ℕ) (list : List ℕ) (groups : List (List ℕ)) (b : Bool) →
+    groups ≡ first_chunks 8 k list →
+    i < k →
+    b ≡ list_any (λ entry. eqb entry suite) (get_or groups i []) →
+    b ≡ (find (eqb suite) (take 8 (drop (i * 8) list))).found
+in_group suite k i list groups b is h e =
+    e ∙ contained suite (get_or groups i []) ∙ ap (λ (group : List ℕ). (find (eqb suite) group).found) (ap (λ (g : List (List ℕ)). get_or g i []) is ∙ group_at 8 k i list h)

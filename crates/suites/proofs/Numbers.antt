@@ -1,27 +1,24 @@
 -- No two answers have the same numbers: the contract of `choose`, which speaks of them, fixes its result.
 use mathlib.Core.Path.{◌≡◌, refl, sym, ap, ◌∙◌}
 use mathlib.Core.Bool.{cond}
+use Prim.Native.Nat.{ℕ}
 use lib.Dec.{eqb}
-use Rattle.suites.specs.Answer.{Found, Answer}
-use Rattle.suites.specs.Numbers.{found_of, answer_of}
-use Rattle.suites.specs.declared.Common.{Common}
-use Rattle.suites.specs.declared.Common.TheVariants.{Suite, Nothing}
-use Rattle.suites.specs.declared.Choice.{Choice}
-use Rattle.suites.specs.declared.Choice.TheVariants.{TooLong, Chosen}
+use Rattle.std.specs.Prelude.{Option, None, Some, Result, Ok, Err}
+use Rattle.suites.specs.Answer.{Answer}
+use Rattle.suites.specs.Numbers.{found_of, suite_from, answer_of}
+use Rattle.suites.specs.declared.Chosen.{Chosen}
+use Rattle.suites.specs.declared.TooLong.{TooLong}
 
-abbrev common_from : Found → Common
-common_from f = cond f.found (Suite f.suite) Nothing
+abbrev choice_from : Answer → Result Chosen TooLong
+choice_from a = cond (eqb a.refusal 0) (Ok (record { verifier = suite_from a.verifier; prover = suite_from a.prover })) (Err (record {}))
 
-abbrev choice_from : Answer → Choice
-choice_from a = cond (eqb a.refusal 0) (Chosen (common_from a.verifier) (common_from a.prover)) TooLong
+pub suite_back : (c : Option ℕ) → suite_from (found_of c) ≡ c
+suite_back (Some number) = refl
+suite_back None = refl
 
-common_back : (c : Common) → common_from (found_of c) ≡ c
-common_back (Suite number) = refl
-common_back Nothing = refl
+choice_back : (c : Result Chosen TooLong) → choice_from (answer_of c) ≡ c
+choice_back (Err fault) = refl
+choice_back (Ok suites) = λ i. Ok (record { verifier = suite_back suites.verifier i; prover = suite_back suites.prover i })
 
-choice_back : (c : Choice) → choice_from (answer_of c) ≡ c
-choice_back TooLong = refl
-choice_back (Chosen v p) = λ i. Chosen (common_back v i) (common_back p i)
-
-pub same_numbers : (a b : Choice) → answer_of a ≡ answer_of b → a ≡ b
+pub same_numbers : (a b : Result Chosen TooLong) → answer_of a ≡ answer_of b → a ≡ b
 same_numbers a b same = sym (choice_back a) ∙ ap choice_from same ∙ choice_back b

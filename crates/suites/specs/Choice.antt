@@ -1,5 +1,6 @@
 -- Document 01, "Tokens and suites" and "Refusal numbers", row 6: the choice of suites, over four lists of 32-bit numbers.
 use Rattle.std.specs.Prelude.{ℕ, Bool, cond, ◌||◌, List, [], ◌∷◌, length, eqb, ltb}
+use Rattle.suites.specs.declared.Lists.{Lists}
 use Rattle.suites.specs.Answer.{Found, found_suite, not_found, Answer, refused, chosen}
 
 -- The first entry of a list that passes a test. Repeats are allowed; an empty list finds nothing.
@@ -31,3 +32,13 @@ choice our_verifiers peer_provers peer_verifiers our_provers =
     cond (any_too_long our_verifiers peer_provers peer_verifiers our_provers)
     refused
     (chosen (first_found our_verifiers peer_provers) (first_found peer_verifiers our_provers))
+
+-- Whether one of the lists that the code is lent is too long.
+abbrev pub lists_too_long : Lists → Bool
+lists_too_long lists =
+    any_too_long lists.our_verifiers.now lists.peer_provers.now lists.peer_verifiers.now lists.our_provers.now
+
+-- The choice over them.
+abbrev pub choice_of : Lists → Answer
+choice_of lists =
+    choice lists.our_verifiers.now lists.peer_provers.now lists.peer_verifiers.now lists.our_provers.now

@@ -1,16 +1,19 @@
--- Document 01, "The forms we expect": the paper's number and values for each case of the enums that the code answers with.
+-- Document 01, "The forms we expect": the paper's number and values for each case of what the code answers with.
+use Rattle.std.specs.Prelude.{ℕ, cond, Option, None, Some, Result, Ok, Err}
 use Rattle.suites.specs.Answer.{Found, found_suite, not_found, Answer, refused, chosen}
-use Rattle.suites.specs.declared.Common.{Common}
-use Rattle.suites.specs.declared.Common.TheVariants.{Suite, Nothing}
-use Rattle.suites.specs.declared.Choice.{Choice}
-use Rattle.suites.specs.declared.Choice.TheVariants.{TooLong, Chosen}
+use Rattle.suites.specs.declared.Chosen.{Chosen}
+use Rattle.suites.specs.declared.TooLong.{TooLong}
 
 -- What two lists have in common, in document 01's values.
-abbrev pub found_of : Common → Found
-found_of (Suite number) = found_suite number
-found_of Nothing = not_found
+abbrev pub found_of : Option ℕ → Found
+found_of (Some number) = found_suite number
+found_of None = not_found
+
+-- And back: what was found, as the code holds it.
+abbrev pub suite_from : Found → Option ℕ
+suite_from f = cond f.found (Some f.suite) None
 
 -- The whole answer, in document 01's values.
-abbrev pub answer_of : Choice → Answer
-answer_of TooLong = refused
-answer_of (Chosen verifier prover) = chosen (found_of verifier) (found_of prover)
+abbrev pub answer_of : Result Chosen TooLong → Answer
+answer_of (Err fault) = refused
+answer_of (Ok suites) = chosen (found_of suites.verifier) (found_of suites.prover)

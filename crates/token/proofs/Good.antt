@@ -10,7 +10,7 @@ use lib.Signed.{lt_z, le_z, non_neg}
 use Rattle.token.specs.Answer.{refused, left, time_left}
 use Rattle.token.specs.SecondsLeft.{day, seconds_left, margin_too_large}
 use Rattle.token.specs.Good.{good, good_seconds}
-use Rattle.token.proofs.Difference.{parts, not_less}
+use Rattle.std.proofs.lemmas.Int.{ints}
 
 -- In the paper's number and not in `day`, so that another `day` is refused.
 abbrev AtMostDay : ℤ → Type 0
@@ -19,7 +19,7 @@ AtMostDay left = le_z (pos 1) left ≡ true → T (non_neg left) × (nat_abs lef
 clamped_at_most_day : (z : ℤ) (t u : Bool) → lt_z z (neg_ℤ day) ≡ t → lt_z day z ≡ u → AtMostDay (cond t (neg_ℤ day) (cond u day z))
 clamped_at_most_day z true u p q h = absurd (false≢true h)
 clamped_at_most_day z false true p q h = (tt, omega arith)
-clamped_at_most_day (pos n) false false p q h = (tt, omega (arith, not_less (parts day) (parts (pos n)) q))
+clamped_at_most_day (pos n) false false p q h = (tt, omega (arith, ints, q))
 clamped_at_most_day (negsuc n) false false p q h = absurd (false≢true h)
 
 -- Seconds left that are at least 1 are a natural number, at most a day.

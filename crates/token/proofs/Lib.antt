@@ -1,4 +1,3 @@
-pub mod Difference
 pub mod Good
 pub mod NoMargin
 pub mod Numbers

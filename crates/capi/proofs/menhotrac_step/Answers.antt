@@ -20,8 +20,8 @@ module _ (s : After-step_flat-answer) where
   result also event = result_also also (record_in s.args.connection.now) (call_of event s.args.payload.now s.args.our_verifiers.now s.args.peer_provers.now s.args.peer_verifiers.now s.args.our_provers.now) s.args.cache.now
 
   -- That of the event as the host handed it over.
-  of_event : result s.refused_as.result s.event_of.result ≡ result (refused_as s.args.event) (event_of s.args.event)
-  of_event = λ i. result (s.refused_as.ensures i) (s.event_of.ensures i)
+  of_event : result s.refused_as.result s.into.result ≡ result (refused_as s.args.event) (event_of s.args.event)
+  of_event = λ i. result (s.refused_as.ensures i) (s.into.ensures i)
 
 pub returns : goal.returns
 unfolding returned result

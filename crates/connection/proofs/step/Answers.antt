@@ -1,11 +1,11 @@
 -- `connection::step` meets its contract.
-use Rattle.event.specs.Call.{call_of}
+use Rattle.event.specs.Call.{call_with}
 use Rattle.connection.proofs.ByValue.{by_value}
 use Rattle.connection.proofs.step.Goals as goal
 
 pub returns : goal.returns
 returns c =
     let f = c.step_flat-answer in
-    let p = by_value c.args.connection (call_of c.args.event c.args.payload.now c.args.our_verifiers.now c.args.peer_provers.now c.args.peer_verifiers.now c.args.our_provers.now) c.args.cache.now
+    let p = by_value c.args.connection (call_with c.args.event c.args.payload.now c.args.lists) c.args.cache.now
     c.numbers_of-numbers.result c.numbers_of-numbers.ensures f.result f.new.numbers _ _ (f.ensures.value, (f.ensures.numbers_after, (f.ensures.slots_after, f.ensures.cache_after))) _ _ c.record_in.ensures c.actions_in.ensures in
     record { value = p.0; answer_value = p.1.0; cache_after = p.1.1 }

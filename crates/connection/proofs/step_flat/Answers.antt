@@ -1,8 +1,8 @@
 -- `connection::step_flat` meets its contract.
 use mathlib.Core.Path.{◌≡◌, ap, ◌∙◌}
 use lib.ListN.{length}
-use Rattle.event.specs.Call.{Call, call_of, input_by, input_of}
-use Rattle.event.specs.declared.Suites.{Suites}
+use Rattle.event.specs.Call.{Call, call_with, input_by, input_of}
+use Rattle.suites.specs.Answer.{Answer}
 use Rattle.flat.specs.Flat.{record_in}
 use Rattle.record.specs.Limits.{limits}
 use Rattle.record.specs.declared.Connection.{Connection}
@@ -17,11 +17,11 @@ module _ (d : After-decide-answer) where
   before = record_in d.args.numbers.now
 
   abbrev call : Call
-  call = call_of d.args.event d.args.payload.now d.args.our_verifiers.now d.args.peer_provers.now d.args.peer_verifiers.now d.args.our_provers.now
+  call = call_with d.args.event d.args.payload.now d.args.lists
 
   -- The input that was read is the call's.
   is_read : d.read-input.result ≡ input_of limits call (length d.args.cache.now)
-  is_read = d.read-input.ensures ∙ ap (λ (x : Suites). input_by limits call.event (length call.payload) (length d.args.cache.now) x) d.choose_suites-suites.ensures
+  is_read = d.read-input.ensures ∙ ap (λ (suites : Answer). input_by limits call.event (length call.payload) (length d.args.cache.now) suites) d.choose_suites-suites.ensures
 
 pub returns-in_default : goal.returns-in_default
 returns-in_default c =

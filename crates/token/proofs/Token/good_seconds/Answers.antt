@@ -5,17 +5,15 @@ use lib.Dec.{T}
 use lib.Signed.{le_z, non_neg}
 use Rattle.token.specs.Answer.{Answer}
 use Rattle.token.proofs.Good.{at_most_day}
-use Rattle.token.proofs.good_seconds.Goals as goal
+use Rattle.token.proofs.Token.good_seconds.Goals as goal
 
 at_most_32_bits : (z : ℤ) → T (non_neg z) × (nat_abs z ≤ 86400) → T (non_neg z) × Fits w32 (nat_abs z)
 at_most_32_bits z day = (day.0, omega arith)
 
 pub overflow_cast-result : goal.overflow_cast-result
 overflow_cast-result c =
-    let expiry_fits = c.ranges.expiry in
-    let now_fits = c.ranges.now in
-    let left_fits : FitsSigned w64 c.in-Seconds.left = search rules in
-    let answer = simp to_z-of_z at c.in-Seconds.ensures in
-    let same = to_z-of_z w64 c.in-Seconds.left left_fits ∙ ap (λ (a : Answer). a.seconds) answer in
-    let positive : le_z (pos 1) c.in-Seconds.left ≡ true = grind (arith, ints) in
-    rw same (at_most_32_bits _ (at_most_day _ _ _ (rw (← ap (λ (a : Answer). a.seconds) answer) positive)))
+    let left_fits : FitsSigned w64 c.in-Ok.left = search rules in
+    let answer = ap (λ (a : Answer). a.seconds) c.in-Ok.ensures in
+    let same = to_z-of_z w64 c.in-Ok.left left_fits ∙ answer in
+    let positive : le_z (pos 1) c.in-Ok.left ≡ true = grind (arith, ints) in
+    rw same (at_most_32_bits _ (at_most_day _ _ _ (rw (← answer) positive)))
