@@ -1,5 +1,5 @@
 // What the drawing asks of the published table.
-use table::{IGNORED, next_state, states};
+use table::{next_state, states};
 
 // The states between the closed ones, in each of which the same events lock.
 pub(crate) const FIRST_OPEN: u32 = states::WAIT_FOR_HELLO;
@@ -20,8 +20,8 @@ pub(crate) enum Flags {
 }
 
 pub(crate) fn reach(from: u32, to: u32, code: u32, held: bool) -> Flags {
-    let clear = next_state(from, 0, code, held) == to;
-    let set = next_state(from, 1, code, held) == to;
+    let clear = next_state(from, 0, code, held) == Some(to);
+    let set = next_state(from, 1, code, held) == Some(to);
     if clear && set {
         Flags::Either
     } else if clear {
@@ -48,7 +48,7 @@ pub(crate) fn fails(from: u32, code: u32) -> bool {
 }
 
 fn handled(from: u32, flag: u32, code: u32) -> bool {
-    next_state(from, flag, code, false) != IGNORED
+    next_state(from, flag, code, false).is_some()
 }
 
 // Whether the event locks in each of states 1 to 8.
