@@ -5,99 +5,90 @@
 ghost use Rattle.std.specs.Prelude.{◌≡◌, cond};
 ghost use Rattle.effects.specs.ByEvent.{by_event};
 
-use effects::{NO_ACTIONS, pick};
-use event::Input;
-use protocol::{Answer, Outcome, orders};
+use effects::{NO_ACTIONS, Transition, handled};
+use protocol::{Actions, Outcome, orders};
 use record::Connection;
 use table::states;
 
 // RA_VERIFIER_OK: the peer is attested until RA runs out.
-pub fn verifier_ok(connection: Connection, input: Input, to: u32, number: u32) -> Outcome
-    ensures { result ≡ by_event number connection 4 input to }
+pub fn verifier_ok(transition: Transition) -> Outcome
+    ensures { result ≡ by_event 4 transition }
 {
-    let waits = to == states::WAIT_FOR_ACK;
-    let mut after = connection;
-    after.state = to;
-    after.handled = number;
-    after.verifier = 0;
-    after.ra = number;
-    after.ack = pick(waits, number, connection.ack);
-    let mut actions = NO_ACTIONS;
-    actions.hv = orders::CANCEL;
-    actions.ra = orders::START;
-    actions.ack = pick(waits, orders::START, orders::NONE);
-    Outcome {
-        answer: Answer::Handled,
-        connection: after,
-        actions,
-    }
+    let number = transition.number;
+    let waits = transition.to == states::WAIT_FOR_ACK;
+    handled(
+        Connection {
+            verifier: 0,
+            ra: number,
+            ack: if waits { number } else { transition.before.ack },
+            ..transition.moved()
+        },
+        Actions {
+            hv: orders::CANCEL,
+            ra: orders::START,
+            ack: if waits { orders::START } else { orders::NONE },
+            ..NO_ACTIONS
+        },
+    )
 }
 
 // RA_PROVER_OK: we are attested to the peer.
-pub fn prover_ok(connection: Connection, input: Input, to: u32, number: u32) -> Outcome
-    ensures { result ≡ by_event number connection 7 input to }
+pub fn prover_ok(transition: Transition) -> Outcome
+    ensures { result ≡ by_event 7 transition }
 {
-    let waits = to == states::WAIT_FOR_ACK;
-    let mut after = connection;
-    after.state = to;
-    after.handled = number;
-    after.prover = 0;
-    after.ack = pick(waits, number, connection.ack);
-    let mut actions = NO_ACTIONS;
-    actions.hp = orders::CANCEL;
-    actions.ack = pick(waits, orders::START, orders::NONE);
-    Outcome {
-        answer: Answer::Handled,
-        connection: after,
-        actions,
-    }
+    let number = transition.number;
+    let waits = transition.to == states::WAIT_FOR_ACK;
+    handled(
+        Connection {
+            prover: 0,
+            ack: if waits { number } else { transition.before.ack },
+            ..transition.moved()
+        },
+        Actions {
+            hp: orders::CANCEL,
+            ack: if waits { orders::START } else { orders::NONE },
+            ..NO_ACTIONS
+        },
+    )
 }
 
 // RA_VERIFIER_MSG and RA_PROVER_MSG: a driver's message goes to the peer.
-pub fn send_report(
-    connection: Connection,
-    of_verifier: bool,
-    input: Input,
-    to: u32,
-    number: u32,
-) -> Outcome
-    ensures { result ≡ by_event number connection (cond of_verifier 6 9) input to }
+pub fn send_report(of_verifier: bool, transition: Transition) -> Outcome
+    ensures { result ≡ by_event (cond of_verifier 6 9) transition }
 {
-    let mut after = connection;
-    after.state = to;
-    after.handled = number;
-    let mut actions = NO_ACTIONS;
-    actions.message = pick(of_verifier, orders::RA_VERIFIER, orders::RA_PROVER);
-    actions.payload_slice = orders::OF_EVENT;
-    actions.payload_len = input.payload_len;
-    Outcome {
-        answer: Answer::Handled,
-        connection: after,
-        actions,
-    }
+    let message = if of_verifier {
+        orders::RA_VERIFIER
+    } else {
+        orders::RA_PROVER
+    };
+    handled(
+        transition.moved(),
+        Actions {
+            message,
+            payload_slice: orders::OF_EVENT,
+            payload_len: transition.input.payload_len,
+            ..NO_ACTIONS
+        },
+    )
 }
 
 // SC_RA_PROVER and SC_RA_VERIFIER: the peer's message goes to the driver of the other kind.
-pub fn pass_on(
-    connection: Connection,
-    to_verifier: bool,
-    input: Input,
-    to: u32,
-    number: u32,
-) -> Outcome
-    ensures { result ≡ by_event number connection (cond to_verifier 15 16) input to }
+pub fn pass_on(to_verifier: bool, transition: Transition) -> Outcome
+    ensures { result ≡ by_event (cond to_verifier 15 16) transition }
 {
-    let mut after = connection;
-    after.state = to;
-    after.handled = number;
-    let mut actions = NO_ACTIONS;
-    actions.prover = pick(to_verifier, orders::NONE, orders::FORWARD);
-    actions.verifier = pick(to_verifier, orders::FORWARD, orders::NONE);
-    actions.payload_slice = orders::OF_EVENT;
-    actions.payload_len = input.payload_len;
-    Outcome {
-        answer: Answer::Handled,
-        connection: after,
-        actions,
-    }
+    let (prover, verifier) = if to_verifier {
+        (orders::NONE, orders::FORWARD)
+    } else {
+        (orders::FORWARD, orders::NONE)
+    };
+    handled(
+        transition.moved(),
+        Actions {
+            prover,
+            verifier,
+            payload_slice: orders::OF_EVENT,
+            payload_len: transition.input.payload_len,
+            ..NO_ACTIONS
+        },
+    )
 }

@@ -1,4 +1,5 @@
 -- An outcome over a record that is lent in numbers, as `decide` promises it. No definition rests on this file.
+use Rattle.std.specs.Prelude.{ℕ, Option, None, Some}
 use Rattle.record.specs.declared.Connection.{Connection}
 use Rattle.protocol.specs.declared.Answer.{Answer}
 use Rattle.protocol.specs.declared.Answer.TheVariants.{Handled, Ignored, Refused}
@@ -17,3 +18,8 @@ lent before outcome = record {
   connection = record_after outcome.answer outcome.connection before;
   actions = outcome.actions;
 }
+
+-- The answer where nothing moves: refused or, without a refusal, ignored.
+abbrev pub unmoved_answer : Option ℕ → Answer
+unmoved_answer None = Ignored
+unmoved_answer (Some number) = Refused number

@@ -1,25 +1,23 @@
 // What becomes of an event: refused, ignored or handled.
 #![tactic(auto)]
 
-ghost use Rattle.std.specs.Prelude.{◌≡◌, cond, eqb};
+ghost use Rattle.std.specs.Prelude.{◌≡◌, cond};
 ghost use Rattle.decision.specs.Also.{decided_also};
-ghost use Rattle.decision.specs.Lent.{lent};
+ghost use Rattle.decision.specs.Lent.{lent, unmoved_answer};
 ghost use Rattle.flat.specs.Flat.{record_in, slots_of};
 ghost use Rattle.flat.specs.Written.{Written};
+ghost use Rattle.guards.specs.Numbered.{refusal_numbered};
 ghost use Rattle.protocol.specs.Actions.{no_actions};
-ghost use Rattle.protocol.specs.declared.Answer.TheVariants.{Ignored, Refused};
 
 use dispatch::move_on;
-use effects::{NO_ACTIONS, pick};
+use effects::{NO_ACTIONS, Transition};
 use event::Input;
 use flat::{put, slots_of};
 use guards::{holds, lowest_fault};
 use lifecycle::lock;
 use protocol::{Answer, refusals};
 use record::Connection;
-use table::{IGNORED, next_state, states};
-
-const MAX_HANDLED: u32 = 4_294_967_295;
+use table::{next_state, states};
 
 // Decides an event for a record and writes the actions and, where the event is handled, the record after it. `also` is a refusal
 // of the host's interface, 0 for none.
@@ -33,39 +31,51 @@ pub fn decide(
 ) -> Answer
     ensures { Written (lent (record_in numbers.old) (decided_also also connection code input)) result numbers.new slots.new }
 {
-    let fault = lowest_fault(connection, code, input);
-    if fault != refusals::NONE {
-        return unmoved(slots, fault);
+    if let Some(fault) = lowest_fault(connection, code, input) {
+        return unmoved(slots, Some(fault));
     }
+    let late = late_refusal(input.margin_too_large, also);
     let held = holds(connection, code, input);
-    let to = next_state(connection.state, connection.awaiting_ack, code, held);
-    // Refusal 9 or, without its fault, that of the host's interface.
-    let late = pick(input.margin_too_large, refusals::MARGIN_TOO_LARGE, also);
-    if to == IGNORED {
+    let Some(to) = next_state(connection.state, connection.awaiting_ack, code, held) else {
         return unmoved(slots, late);
-    }
+    };
     let handled = connection.handled;
-    if handled == MAX_HANDLED {
-        return unmoved(slots, refusals::NUMBER_EXHAUSTED);
+    let Some(number) = handled.checked_add(1) else {
+        return unmoved(slots, Some(refusals::NUMBER_EXHAUSTED));
+    };
+    if let Some(refusal) = late {
+        return unmoved(slots, Some(refusal));
     }
-    if late != refusals::NONE {
-        return unmoved(slots, late);
-    }
-    let number = handled + 1;
+    let transition = Transition {
+        before: connection,
+        input,
+        to,
+        number,
+    };
     if to == states::CLOSED_LOCKED {
-        return put(numbers, slots, lock(connection, code, input, number));
+        return put(numbers, slots, lock(code, transition));
     }
-    move_on(numbers, slots, connection, code, input, to, number)
+    move_on(numbers, slots, code, transition)
+}
+
+// Refusal 9 or, without its fault, that of the host's interface.
+fn late_refusal(margin_too_large: bool, also: u32) -> Option<u32>
+    ensures { result ≡ refusal_numbered (cond margin_too_large 9 also) }
+{
+    if margin_too_large {
+        return Some(refusals::MARGIN_TOO_LARGE);
+    }
+    (also != refusals::NONE).then_some(also)
 }
 
 // Refused or, without a refusal, ignored: no actions, and the record is not written.
-fn unmoved(slots: &mut [u32; 16], refusal: u32) -> Answer
-    ensures value { result ≡ cond (eqb refusal 0) Ignored (Refused refusal) }
+fn unmoved(slots: &mut [u32; 16], refusal: Option<u32>) -> Answer
+    ensures value { result ≡ unmoved_answer refusal }
     ensures slots_after { slots.new ≡ slots_of no_actions }
 {
     *slots = slots_of(NO_ACTIONS);
-    if refusal != refusals::NONE {
-        return Answer::Refused(refusal);
+    match refusal {
+        Some(number) => Answer::Refused(number),
+        None => Answer::Ignored,
     }
-    Answer::Ignored
 }

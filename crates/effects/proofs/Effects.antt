@@ -21,6 +21,7 @@ use Rattle.record.specs.WellFormed.{well_formed}
 use Rattle.protocol.specs.declared.Answer.TheVariants.{Handled}
 use Rattle.record.specs.declared.Connection.{Connection}
 use Rattle.event.specs.declared.Input.{Input}
+use Rattle.effects.specs.declared.Transition.{Transition}
 use Rattle.table.proofs.Arms.{is_in_lem, one_of}
 use Rattle.table.proofs.Finite.{and_left, and_right, is_false, cells, cells_at}
 use Rattle.record.proofs.EveryTimer.{timers, timers_at}
@@ -128,6 +129,10 @@ reports_by DAT k name e = refl
 reports_by RA k name e = refl
 reports_by ACK k name e = refl
 
+-- The event that a record handles next.
+abbrev pub next_event : Connection → Input → (to : ℕ) → Transition
+next_event connection input to = record { before = connection; input = input; to = to; number = raised connection }
+
 module _ (limits : Limits) (connection : Connection) (code : ℕ) (input : Input) (to : ℕ)
     (well : T (well_formed limits connection)) (known : code < 24)
     (next : next_state connection code input ≡ to) (heard : eqb to 11 ≡ false) (stays : eqb to 9 ≡ false) where
@@ -151,7 +156,7 @@ module _ (limits : Limits) (connection : Connection) (code : ℕ) (input : Input
       ∙ ap (λ (r : Bool). timer_order (starts x code connection.state to) (ends x to) r (tag_of connection x)) (reports_by x code input.timer fitting.no_timeout)
 
   -- What the code does for an event that moves on is what the definitions say.
-  pub by_event_lem : by_event (raised connection) connection code input to ≡ handled_to to connection code input
+  pub by_event_lem : by_event code (next_event connection input to) ≡ handled_to to connection code input
   unfolding advance actions_of
   by_event_lem =
       let effect = effect_of code to in
@@ -166,6 +171,6 @@ pub moving_is : (code : ℕ) → OneOf moving code → moving_code code ≡ code
 moving_is code o = rw (is_in_lem moving code o)
 
 -- What it does for an event that locks, too.
-pub by_locking_lem : (connection : Connection) (code : ℕ) (input : Input) → by_locking (raised connection) connection code input ≡ handled_to 9 connection code input
+pub by_locking_lem : (connection : Connection) (code : ℕ) (input : Input) (to : ℕ) → by_locking code (next_event connection input to) ≡ handled_to 9 connection code input
 unfolding advance actions_of
-by_locking_lem connection code input = refl
+by_locking_lem connection code input to = refl

@@ -11,7 +11,7 @@ use Rattle.protocol.specs.Actions.{locking_actions, moving_actions, orders_of}
 use Rattle.protocol.specs.declared.Answer.TheVariants.{Handled}
 use Rattle.record.specs.declared.Connection.{Connection}
 use Rattle.protocol.specs.declared.Outcome.{Outcome}
-use Rattle.event.specs.declared.Input.{Input}
+use Rattle.effects.specs.declared.Transition.{Transition}
 
 -- The effects on a timer: kept as it is; started; cancelled where it is known to run; ended by its own report; cancelled where it may be off.
 pub data Effect : Type 0 where
@@ -77,22 +77,26 @@ order_by cancel tag = order.cancel
 order_by expire tag = order.none
 order_by clear tag = timer_order false true false tag
 
+-- The record after an event that changes the state and the number alone.
+abbrev pub moved_alone : Transition → Connection
+moved_alone t = record t.before { state = t.to; handled = t.number }
+
 -- A handled event that doesn't lock.
-abbrev pub by_event : (number : ℕ) → Connection → (code : ℕ) → Input → (to : ℕ) → Outcome
-by_event number connection code input to =
-    let effect = effect_of code to in
+abbrev pub by_event : (code : ℕ) → Transition → Outcome
+by_event code t =
+    let effect = effect_of code t.to in
     record {
       answer = Handled;
-      connection = moved (λ timer. tag_by (effect timer) number (tag_of connection timer)) number connection code input to;
-      actions = moving_actions (λ timer. order_by (effect timer) (tag_of connection timer)) connection code input;
+      connection = moved (λ timer. tag_by (effect timer) t.number (tag_of t.before timer)) t.number t.before code t.input t.to;
+      actions = moving_actions (λ timer. order_by (effect timer) (tag_of t.before timer)) t.before code t.input;
     }
 
 -- A handled event that locks.
-abbrev pub by_locking : (number : ℕ) → Connection → (code : ℕ) → Input → Outcome
-by_locking number connection code input = record {
+abbrev pub by_locking : (code : ℕ) → Transition → Outcome
+by_locking code t = record {
   answer = Handled;
-  connection = locked number;
-  actions = locking_actions (orders_of connection code input 9) connection code;
+  connection = locked t.number;
+  actions = locking_actions (orders_of t.before code t.input 9) t.before code;
 }
 
 -- The events that are handled without a lock in some state.

@@ -1,11 +1,16 @@
 // What a handled event does, event by event: the definition that `lifecycle`, `attestation`, `renewal` and `transfer` promise, and the
-// proof that it is what the rules of `protocol` say (`specs`, `proofs`). Here is what these crates share: the empty order sheet, and a
-// choice between two numbers.
+// proof that it is what the rules of `protocol` say (`specs`, `proofs`). Here is what these crates share: what they are given of an
+// event, the empty order sheet, and the outcome that they give.
 #![tactic(auto)]
 
-ghost use Rattle.std.specs.Prelude.{◌≡◌, cond};
+ghost use Rattle.std.specs.Prelude.{◌≡◌};
+ghost use Rattle.effects.specs.ByEvent.{by_event, clear, moved_alone, order_by};
+ghost use Rattle.protocol.specs.declared.Answer.TheVariants.{Handled};
+ghost use Rattle.protocol.specs.declared.Outcome.{Outcome};
 
-use protocol::{Actions, orders};
+use event::Input;
+use protocol::{Actions, Answer, Outcome, orders};
+use record::Connection;
 
 // The empty order sheet.
 pub const NO_ACTIONS: Actions = Actions {
@@ -27,9 +32,45 @@ pub const NO_ACTIONS: Actions = Actions {
     payload_len: 0,
 };
 
-// One of two numbers, by a test.
-pub fn pick(test: bool, yes: u32, no: u32) -> u32
-    ensures { result ≡ cond test yes «no» }
+// An event that is handled: the record before it, what the step reads of its call, the state that follows, and its number.
+#[derive(Clone, Copy)]
+pub struct Transition {
+    pub before: Connection,
+    pub input: Input,
+    pub to: u32,
+    pub number: u32,
+}
+
+impl Transition {
+    // The record after an event that changes the state and the number alone.
+    pub fn moved(self) -> Connection
+        ensures { result ≡ moved_alone self }
+    {
+        Connection {
+            state: self.to,
+            handled: self.number,
+            ..self.before
+        }
+    }
+}
+
+// The outcome of a handled event.
+pub fn handled(connection: Connection, actions: Actions) -> Outcome
+    ensures { result ≡ record { answer = Handled; connection = connection; actions = actions } }
 {
-    if test { yes } else { no }
+    Outcome {
+        answer: Answer::Handled,
+        connection,
+        actions,
+    }
+}
+
+// The order that ends a timer which may be off: one that is off gets no cancel.
+pub fn cancel_if_on(tag: u32) -> u32
+    ensures { result ≡ order_by clear tag }
+{
+    match tag {
+        0 => orders::NONE,
+        _ => orders::CANCEL,
+    }
 }

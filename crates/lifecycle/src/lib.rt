@@ -7,53 +7,51 @@ ghost use Rattle.effects.specs.ByEvent.{by_event};
 mod locking;
 
 pub use crate::locking::lock;
-use effects::NO_ACTIONS;
-use event::Input;
-use protocol::{Answer, Outcome, orders};
+use effects::{NO_ACTIONS, Transition, handled};
+use protocol::{Actions, Outcome, orders};
 use record::Connection;
 
 // UPPER_START_HANDSHAKE: sends a hello.
-pub fn start_handshake(connection: Connection, input: Input, to: u32, number: u32) -> Outcome
-    ensures { result ≡ by_event number connection 0 input to }
+pub fn start_handshake(transition: Transition) -> Outcome
+    ensures { result ≡ by_event 0 transition }
 {
-    let mut after = connection;
-    after.state = to;
-    after.handled = number;
-    after.h = number;
-    let mut actions = NO_ACTIONS;
-    actions.message = orders::HELLO;
-    actions.h = orders::START;
-    Outcome {
-        answer: Answer::Handled,
-        connection: after,
-        actions,
-    }
+    handled(
+        Connection {
+            h: transition.number,
+            ..transition.moved()
+        },
+        Actions {
+            message: orders::HELLO,
+            h: orders::START,
+            ..NO_ACTIONS
+        },
+    )
 }
 
 // A good SC_HELLO: opens the connection and starts both drivers.
-pub fn open_connection(connection: Connection, input: Input, to: u32, number: u32) -> Outcome
-    ensures { result ≡ by_event number connection 11 input to }
+pub fn open_connection(transition: Transition) -> Outcome
+    ensures { result ≡ by_event 11 transition }
 {
-    let mut after = connection;
-    after.state = to;
-    after.handled = number;
-    after.h = 0;
-    after.prover = number;
-    after.verifier = number;
-    after.dat = number;
-    let mut actions = NO_ACTIONS;
-    actions.prover = orders::START;
-    actions.verifier = orders::START;
-    actions.h = orders::CANCEL;
-    actions.hp = orders::START;
-    actions.hv = orders::START;
-    actions.dat = orders::START;
-    actions.dat_seconds = input.seconds.unwrap_or(0);
-    actions.verifier_suite = input.suites.verifier.unwrap_or(0);
-    actions.prover_suite = input.suites.prover.unwrap_or(0);
-    Outcome {
-        answer: Answer::Handled,
-        connection: after,
-        actions,
-    }
+    let input = transition.input;
+    handled(
+        Connection {
+            h: 0,
+            prover: transition.number,
+            verifier: transition.number,
+            dat: transition.number,
+            ..transition.moved()
+        },
+        Actions {
+            prover: orders::START,
+            verifier: orders::START,
+            h: orders::CANCEL,
+            hp: orders::START,
+            hv: orders::START,
+            dat: orders::START,
+            dat_seconds: input.seconds.unwrap_or(0),
+            verifier_suite: input.suites.verifier.unwrap_or(0),
+            prover_suite: input.suites.prover.unwrap_or(0),
+            ..NO_ACTIONS
+        },
+    )
 }

@@ -1,5 +1,5 @@
 // What the drawing asks of the published table. States, codes and the ack flag are numbers, as `table::next_state` takes them.
-use table::{IGNORED, next_state, states};
+use table::{next_state, states};
 
 // The states between the closed ones, in each of which the same events lock.
 pub(crate) const FIRST_OPEN: u32 = states::WAIT_FOR_HELLO;
@@ -8,12 +8,6 @@ pub(crate) const LAST_OPEN: u32 = states::WAIT_FOR_ACK;
 
 fn is_open(state: u32) -> bool {
     (FIRST_OPEN..=LAST_OPEN).contains(&state)
-}
-
-// The state that follows; `None` where the event is ignored.
-fn next(from: u32, flag: u32, code: u32, held: bool) -> Option<u32> {
-    let next = next_state(from, flag, code, held);
-    (next != IGNORED).then_some(next)
 }
 
 // The values of the ack flag at which an event leads to a state.
@@ -45,7 +39,7 @@ impl Transition {
     }
 
     fn leads_with(self, flag: u32) -> bool {
-        next(self.from, flag, self.code, self.held) == Some(self.to)
+        next_state(self.from, flag, self.code, self.held) == Some(self.to)
     }
 
     // A condition that isn't asked has one line, and what the note says of all states isn't said again.
@@ -65,7 +59,7 @@ impl Transition {
 
 // Whether the event's condition decides what follows.
 fn is_asked(from: u32, code: u32) -> bool {
-    [0, 1].iter().any(|flag| next(from, *flag, code, true) != next(from, *flag, code, false))
+    [0, 1].iter().any(|flag| next_state(from, *flag, code, true) != next_state(from, *flag, code, false))
 }
 
 // Whether a condition that is asked and doesn't hold leads somewhere, too: both outcomes then need a mark.
@@ -73,7 +67,7 @@ pub(crate) fn is_marked(from: u32, code: u32) -> bool {
     is_asked(from, code)
         && [0, 1]
             .iter()
-            .any(|flag| next(from, *flag, code, false).is_some())
+            .any(|flag| next_state(from, *flag, code, false).is_some())
 }
 
 // Whether the event locks in each of states 1 to 8.

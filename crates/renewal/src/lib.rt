@@ -5,112 +5,100 @@
 ghost use Rattle.std.specs.Prelude.{◌≡◌, cond};
 ghost use Rattle.effects.specs.ByEvent.{by_event};
 
-use effects::{NO_ACTIONS, pick};
-use event::Input;
-use protocol::{Answer, Outcome, orders};
+use effects::{NO_ACTIONS, Transition, cancel_if_on, handled};
+use protocol::{Actions, Outcome, orders};
 use record::Connection;
 
 // SC_DAT_EXPIRED and SC_RE_RA: we prove ourselves again; SC_DAT_EXPIRED also gets a fresh token.
-pub fn prove_again(
-    connection: Connection,
-    expired: bool,
-    input: Input,
-    to: u32,
-    number: u32,
-) -> Outcome
-    ensures { result ≡ by_event number connection (cond expired 14 17) input to }
+pub fn prove_again(expired: bool, transition: Transition) -> Outcome
+    ensures { result ≡ by_event (cond expired 14 17) transition }
 {
-    let mut after = connection;
-    after.state = to;
-    after.handled = number;
-    after.prover = number;
-    after.ack = 0;
-    let mut actions = NO_ACTIONS;
-    actions.message = pick(expired, orders::DAT, orders::NONE);
-    actions.prover = orders::START;
-    actions.hp = orders::START;
-    actions.ack = pick(connection.ack != 0, orders::CANCEL, orders::NONE);
-    Outcome {
-        answer: Answer::Handled,
-        connection: after,
-        actions,
-    }
+    handled(
+        Connection {
+            prover: transition.number,
+            ack: 0,
+            ..transition.moved()
+        },
+        Actions {
+            message: if expired { orders::DAT } else { orders::NONE },
+            prover: orders::START,
+            hp: orders::START,
+            ack: cancel_if_on(transition.before.ack),
+            ..NO_ACTIONS
+        },
+    )
 }
 
 // UPPER_RE_RA and RA_TIMEOUT: the peer has to prove itself again.
-pub fn verify_again(
-    connection: Connection,
-    asked: bool,
-    input: Input,
-    to: u32,
-    number: u32,
-) -> Outcome
-    ensures { result ≡ by_event number connection (cond asked 3 22) input to }
+pub fn verify_again(asked: bool, transition: Transition) -> Outcome
+    ensures { result ≡ by_event (cond asked 3 22) transition }
 {
-    let mut after = connection;
-    after.state = to;
-    after.handled = number;
-    after.verifier = number;
-    after.ra = 0;
-    after.ack = 0;
-    let mut actions = NO_ACTIONS;
-    actions.message = orders::RE_RA;
-    actions.verifier = orders::START;
-    actions.hv = orders::START;
-    actions.ra = pick(asked, orders::CANCEL, orders::NONE);
-    actions.ack = pick(connection.ack != 0, orders::CANCEL, orders::NONE);
-    Outcome {
-        answer: Answer::Handled,
-        connection: after,
-        actions,
-    }
+    handled(
+        Connection {
+            verifier: transition.number,
+            ra: 0,
+            ack: 0,
+            ..transition.moved()
+        },
+        Actions {
+            message: orders::RE_RA,
+            verifier: orders::START,
+            hv: orders::START,
+            ra: if asked { orders::CANCEL } else { orders::NONE },
+            ack: cancel_if_on(transition.before.ack),
+            ..NO_ACTIONS
+        },
+    )
 }
 
 // DAT_TIMEOUT: the peer has to send a fresh token, and is then verified anew.
-pub fn expire_token(connection: Connection, input: Input, to: u32, number: u32) -> Outcome
-    ensures { result ≡ by_event number connection 21 input to }
+pub fn expire_token(transition: Transition) -> Outcome
+    ensures { result ≡ by_event 21 transition }
 {
-    let mut after = connection;
-    after.state = to;
-    after.handled = number;
-    after.h = number;
-    after.verifier = 0;
-    after.dat = 0;
-    after.ra = 0;
-    after.ack = 0;
-    let mut actions = NO_ACTIONS;
-    actions.message = orders::DAT_EXPIRED;
-    actions.verifier = pick(connection.verifier != 0, orders::STOP, orders::NONE);
-    actions.h = orders::START;
-    actions.hv = pick(connection.verifier != 0, orders::CANCEL, orders::NONE);
-    actions.ra = pick(connection.ra != 0, orders::CANCEL, orders::NONE);
-    actions.ack = pick(connection.ack != 0, orders::CANCEL, orders::NONE);
-    Outcome {
-        answer: Answer::Handled,
-        connection: after,
-        actions,
-    }
+    let before = transition.before;
+    handled(
+        Connection {
+            h: transition.number,
+            verifier: 0,
+            dat: 0,
+            ra: 0,
+            ack: 0,
+            ..transition.moved()
+        },
+        Actions {
+            message: orders::DAT_EXPIRED,
+            verifier: if before.verifier != 0 {
+                orders::STOP
+            } else {
+                orders::NONE
+            },
+            h: orders::START,
+            hv: cancel_if_on(before.verifier),
+            ra: cancel_if_on(before.ra),
+            ack: cancel_if_on(before.ack),
+            ..NO_ACTIONS
+        },
+    )
 }
 
 // A good SC_DAT: the token is current again, and the peer has to prove itself.
-pub fn renew_token(connection: Connection, input: Input, to: u32, number: u32) -> Outcome
-    ensures { result ≡ by_event number connection 13 input to }
+pub fn renew_token(transition: Transition) -> Outcome
+    ensures { result ≡ by_event 13 transition }
 {
-    let mut after = connection;
-    after.state = to;
-    after.handled = number;
-    after.h = 0;
-    after.verifier = number;
-    after.dat = number;
-    let mut actions = NO_ACTIONS;
-    actions.verifier = orders::START;
-    actions.h = orders::CANCEL;
-    actions.hv = orders::START;
-    actions.dat = orders::START;
-    actions.dat_seconds = input.seconds.unwrap_or(0);
-    Outcome {
-        answer: Answer::Handled,
-        connection: after,
-        actions,
-    }
+    handled(
+        Connection {
+            h: 0,
+            verifier: transition.number,
+            dat: transition.number,
+            ..transition.moved()
+        },
+        Actions {
+            verifier: orders::START,
+            h: orders::CANCEL,
+            hv: orders::START,
+            dat: orders::START,
+            dat_seconds: transition.input.seconds.unwrap_or(0),
+            ..NO_ACTIONS
+        },
+    )
 }

@@ -1,3 +1,4 @@
 pub mod Arms
 mod Cells
 pub mod Finite
+pub mod Options

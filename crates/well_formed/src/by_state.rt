@@ -1,120 +1,107 @@
 // What number, flag, bits and tags of a well-formed record are in each state.
-ghost use Rattle.std.specs.Prelude.{◌≡◌, T, leb};
-ghost use Rattle.record.specs.WellFormed.{fits_state};
+ghost use Rattle.std.specs.Prelude.{◌≡◌, not, cond, eqb};
+ghost use Rattle.record.specs.Tags.{runs_in};
+ghost use Rattle.record.specs.Timer.{H, HP, HV, DAT, RA, ACK};
+ghost use Rattle.record.specs.WellFormed as spec;
 
 use record::Connection;
-use table::states;
+use table::states::{
+    CLOSED_LOCKED, CLOSED_UNLOCKED, ESTABLISHED, WAIT_FOR_ACK, WAIT_FOR_DAT_AND_RA,
+    WAIT_FOR_DAT_AND_RA_VERIFIER, WAIT_FOR_HELLO, WAIT_FOR_RA, WAIT_FOR_RA_PROVER,
+    WAIT_FOR_RA_VERIFIER,
+};
 
 // Whether number, flag, bits and tags are those of the state.
 pub(crate) fn fits_state(c: Connection) -> bool
-    requires { T (leb c.state 9) }
-    ensures { result ≡ fits_state c.state c }
+    ensures { result ≡ spec.fits_state c.state c }
 {
-    let state = c.state;
+    number_fits(c.state, c.handled)
+        & bits_fit(c.state, c.next_send_bit, c.expected_bit)
+        & flag_fits(c.state, c.awaiting_ack)
+        & is_on_just(h_runs(c.state), c.h)
+        & is_on_just(prover_runs(c.state), c.prover)
+        & is_on_just(verifier_runs(c.state), c.verifier)
+        & is_on_just(dat_runs(c.state), c.dat)
+        & is_on_just(ra_runs(c.state), c.ra)
+        & is_on_just(ack_runs(c.state), c.ack)
+}
+
+// The number is 0 in the state of a new connection.
+fn number_fits(state: u32, handled: u32) -> bool
+    ensures { result ≡ spec.number_fits state handled }
+{
+    (state != CLOSED_UNLOCKED) | (handled == 0)
+}
+
+// The bits are 0 in the closed states and before the hello.
+fn bits_fit(state: u32, next_send: u32, expected: u32) -> bool
+    ensures { result ≡ spec.bits_fit state next_send expected }
+{
     match state {
-        states::CLOSED_UNLOCKED => fits_closed_unlocked(c),
-        states::WAIT_FOR_HELLO => fits_wait_for_hello(c),
-        states::WAIT_FOR_RA => fits_wait_for_ra(c),
-        states::WAIT_FOR_RA_PROVER => fits_wait_for_ra_prover(c),
-        states::WAIT_FOR_RA_VERIFIER => fits_wait_for_ra_verifier(c),
-        states::WAIT_FOR_DAT_AND_RA => fits_wait_for_dat_and_ra(c),
-        states::WAIT_FOR_DAT_AND_RA_VERIFIER => fits_wait_for_dat_and_ra_verifier(c),
-        states::ESTABLISHED => fits_established(c),
-        states::WAIT_FOR_ACK => fits_wait_for_ack(c),
-        _ => fits_closed_locked(c),
+        CLOSED_UNLOCKED | WAIT_FOR_HELLO | CLOSED_LOCKED => (next_send == 0) & (expected == 0),
+        _ => true,
     }
 }
 
-fn fits_closed_unlocked(c: Connection) -> bool
-    ensures { result ≡ fits_state 0 c }
+// No block waits in the closed states, before the hello and in ESTABLISHED; one waits in WAIT_FOR_ACK.
+fn flag_fits(state: u32, awaiting_ack: u32) -> bool
+    ensures { result ≡ spec.flag_fits state awaiting_ack }
 {
-    (c.handled == 0)
-        & ((c.next_send_bit == 0) & (c.expected_bit == 0))
-        & (c.awaiting_ack == 0)
-        & (c.h == 0)
-        & (c.prover == 0)
-        & (c.verifier == 0)
-        & (c.dat == 0)
-        & (c.ra == 0)
-        & (c.ack == 0)
+    match state {
+        CLOSED_UNLOCKED | WAIT_FOR_HELLO | ESTABLISHED | CLOSED_LOCKED => awaiting_ack == 0,
+        WAIT_FOR_ACK => awaiting_ack == 1,
+        _ => true,
+    }
 }
 
-fn fits_wait_for_hello(c: Connection) -> bool
-    ensures { result ≡ fits_state 1 c }
+// Whether a tag is on where its driver or timer runs, and off elsewhere.
+fn is_on_just(runs: bool, tag: u32) -> bool
+    ensures { result ≡ cond runs (not (eqb tag 0)) (eqb tag 0) }
 {
-    ((c.next_send_bit == 0) & (c.expected_bit == 0))
-        & (c.awaiting_ack == 0)
-        & (c.h != 0)
-        & (c.prover == 0)
-        & (c.verifier == 0)
-        & (c.dat == 0)
-        & (c.ra == 0)
-        & (c.ack == 0)
+    runs == (tag != 0)
 }
 
-fn fits_wait_for_ra(c: Connection) -> bool
-    ensures { result ≡ fits_state 2 c }
+fn h_runs(state: u32) -> bool
+    ensures { result ≡ runs_in H state }
 {
-    (c.h == 0) & (c.prover != 0) & (c.verifier != 0) & (c.dat != 0) & (c.ra == 0) & (c.ack == 0)
+    matches!(
+        state,
+        WAIT_FOR_HELLO | WAIT_FOR_DAT_AND_RA | WAIT_FOR_DAT_AND_RA_VERIFIER
+    )
 }
 
-fn fits_wait_for_ra_prover(c: Connection) -> bool
-    ensures { result ≡ fits_state 3 c }
+fn prover_runs(state: u32) -> bool
+    ensures { result ≡ runs_in HP state }
 {
-    (c.h == 0) & (c.prover != 0) & (c.verifier == 0) & (c.dat != 0) & (c.ra != 0) & (c.ack == 0)
+    matches!(
+        state,
+        WAIT_FOR_RA | WAIT_FOR_RA_PROVER | WAIT_FOR_DAT_AND_RA
+    )
 }
 
-fn fits_wait_for_ra_verifier(c: Connection) -> bool
-    ensures { result ≡ fits_state 4 c }
+fn verifier_runs(state: u32) -> bool
+    ensures { result ≡ runs_in HV state }
 {
-    (c.h == 0) & (c.prover == 0) & (c.verifier != 0) & (c.dat != 0) & (c.ra == 0) & (c.ack == 0)
+    matches!(state, WAIT_FOR_RA | WAIT_FOR_RA_VERIFIER)
 }
 
-fn fits_wait_for_dat_and_ra(c: Connection) -> bool
-    ensures { result ≡ fits_state 5 c }
+fn dat_runs(state: u32) -> bool
+    ensures { result ≡ runs_in DAT state }
 {
-    (c.h != 0) & (c.prover != 0) & (c.verifier == 0) & (c.dat == 0) & (c.ra == 0) & (c.ack == 0)
+    matches!(
+        state,
+        WAIT_FOR_RA | WAIT_FOR_RA_PROVER | WAIT_FOR_RA_VERIFIER | ESTABLISHED | WAIT_FOR_ACK
+    )
 }
 
-fn fits_wait_for_dat_and_ra_verifier(c: Connection) -> bool
-    ensures { result ≡ fits_state 6 c }
+fn ra_runs(state: u32) -> bool
+    ensures { result ≡ runs_in RA state }
 {
-    (c.h != 0) & (c.prover == 0) & (c.verifier == 0) & (c.dat == 0) & (c.ra == 0) & (c.ack == 0)
+    matches!(state, WAIT_FOR_RA_PROVER | ESTABLISHED | WAIT_FOR_ACK)
 }
 
-fn fits_established(c: Connection) -> bool
-    ensures { result ≡ fits_state 7 c }
+fn ack_runs(state: u32) -> bool
+    ensures { result ≡ runs_in ACK state }
 {
-    (c.awaiting_ack == 0)
-        & (c.h == 0)
-        & (c.prover == 0)
-        & (c.verifier == 0)
-        & (c.dat != 0)
-        & (c.ra != 0)
-        & (c.ack == 0)
-}
-
-fn fits_wait_for_ack(c: Connection) -> bool
-    ensures { result ≡ fits_state 8 c }
-{
-    (c.awaiting_ack == 1)
-        & (c.h == 0)
-        & (c.prover == 0)
-        & (c.verifier == 0)
-        & (c.dat != 0)
-        & (c.ra != 0)
-        & (c.ack != 0)
-}
-
-fn fits_closed_locked(c: Connection) -> bool
-    ensures { result ≡ fits_state 9 c }
-{
-    ((c.next_send_bit == 0) & (c.expected_bit == 0))
-        & (c.awaiting_ack == 0)
-        & (c.h == 0)
-        & (c.prover == 0)
-        & (c.verifier == 0)
-        & (c.dat == 0)
-        & (c.ra == 0)
-        & (c.ack == 0)
+    state == WAIT_FOR_ACK
 }

@@ -16,13 +16,11 @@ use table::states;
 const MAX_CACHED: u32 = 4096;
 
 // Whether a record is well formed.
+#[tactic(auto, unfolding(record::specs::WellFormed::well_formed))]
 pub fn well_formed(connection: Connection) -> bool
     ensures { result ≡ spec.well_formed limits connection }
 {
-    if !(fields_fit(connection) & tags_at_most(connection.handled, connection)) {
-        return false;
-    }
-    fits_state(connection)
+    fields_fit(connection) & tags_at_most(connection.handled, connection) & fits_state(connection)
 }
 
 // The ranges of state, flag, bits and length, and no length without the flag.
