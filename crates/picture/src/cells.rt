@@ -59,7 +59,8 @@ impl Transition {
 
 // Whether the event's condition decides what follows.
 fn is_asked(from: u32, code: u32) -> bool {
-    [0, 1].iter().any(|flag| next_state(from, *flag, code, true) != next_state(from, *flag, code, false))
+    [0, 1].iter().any(|flag| next_state(from, *flag, code, true)
+        != next_state(from, *flag, code, false))
 }
 
 // Whether a condition that is asked and doesn't hold leads somewhere, too: both outcomes then need a mark.
