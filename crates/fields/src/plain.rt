@@ -88,7 +88,8 @@ fn ack_field(
     Err(misfit(is_ack & (field == schema::ACK_BIT) & !has_bit))
 }
 
-// One field: its key, and then what the key announces.
+// One field: its key, and then what the key announces. Each answer is opened by `?` and made anew: passed on whole, its case
+// is tested twice in every turn of the loop.
 fn next_field(
     message: u32,
     bytes: &[u8],
@@ -101,12 +102,15 @@ fn next_field(
 {
     let key = number(bytes, place)?;
     if message < schema::DATA {
-        return part_field(message, key.value, bytes, key.next, has_bytes);
+        let field = part_field(message, key.value, bytes, key.next, has_bytes)?;
+        return Ok(field);
     }
     if message == schema::DATA {
-        return data_field(key.value, bytes, key.next, has_bytes, has_bit);
+        let field = data_field(key.value, bytes, key.next, has_bytes, has_bit)?;
+        return Ok(field);
     }
-    ack_field(message, key.value, bytes, key.next, has_bit)
+    let field = ack_field(message, key.value, bytes, key.next, has_bit)?;
+    Ok(field)
 }
 
 // All fields from `start` to the end of the bytes. Bytes and bit are kept apart: a struct of both would have padding, which

@@ -115,18 +115,25 @@ pub fn number(bytes: &[u8], place: usize) -> Result<Varint, Refusal>
 }
 
 // The same of an entry of a list, which may well have five bytes: where these are there, the compiler can leave out the tests
-// for the end.
+// for the end. Each answer is opened by `?` and made anew: passed on whole, its case is tested twice in every turn of the loop.
 pub(crate) fn entry(bytes: &[u8], place: usize) -> Result<Varint, Refusal>
     requires { place ≤ length bytes.now }
     ensures { number_of result ≡ number_at bytes.now place }
 {
     if bytes.len() - place < SHORT_WIDTH {
-        return number(bytes, place);
+        let entry = number(bytes, place)?;
+        return Ok(entry);
     }
     match first_bytes(&bytes[place..], SHORT_WIDTH) {
-        Said::Value(number, width) => fitting(number, place + width),
+        Said::Value(number, width) => {
+            let entry = fitting(number, place + width)?;
+            Ok(entry)
+        }
         Said::Cut => Err(Refusal::EndsTooSoon),
-        Said::More(_) => long_number(&bytes[place..], place),
+        Said::More(_) => {
+            let entry = long_number(&bytes[place..], place)?;
+            Ok(entry)
+        }
     }
 }
 

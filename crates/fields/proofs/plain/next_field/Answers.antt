@@ -9,8 +9,14 @@ returns-in_err-key c =
     rw (passed_on _ c.from_residual.ensures.1)
     (λ f m provers verifiers. key_faulty a.message a.bytes.now a.place f provers verifiers _ (sym c.in_err-key.ensures))
 
+pub returns-in_err-field : goal.returns-in_err-field
+returns-in_err-field c = rw (passed_on _ c.from_residual-in_err-field.ensures.1) (c.in_err-field.ensures c.args.has_bit c.args.place (sym c.in_ok-key.ensures))
+
 pub returns-then-message-lt-DATA : goal.returns-then-message-lt-DATA
-returns-then-message-lt-DATA c = c.part_field.ensures c.args.has_bit c.args.place (sym c.in_ok-key.ensures)
+returns-then-message-lt-DATA c = c.in_ok-field.ensures c.args.has_bit c.args.place (sym c.in_ok-key.ensures)
+
+pub returns-in_err-field-3 : goal.returns-in_err-field-3
+returns-in_err-field-3 c = rw (passed_on _ c.from_residual-in_err-field-3.ensures.1) (c.in_err-field-3.ensures c.args.has_bytes c.args.place (sym c.in_ok-key.ensures))
 
 pub returns : goal.returns
-returns c = c.ack_field.ensures c.args.has_bytes c.args.place (sym c.in_ok-key.ensures)
+returns c = c.in_ok-field-3.ensures c.args.has_bytes c.args.place (sym c.in_ok-key.ensures)

@@ -1,4 +1,5 @@
 use Rattle.std.proofs.Common.{sym, ap, subst, ◌∙◌, List, ℕ, ◌-◌, length, take, drop, length-drop, arith}
+use Rattle.fault.proofs.Passed.{passed_on}
 use Rattle.wire.specs.Varint.{said, number_from, number_at}
 use Rattle.wire.specs.Bytes.{SaidBy}
 use Rattle.wire.specs.declared.varint.Said.{Said}
@@ -17,16 +18,29 @@ overflow_add-place c =
     let e = said_by b c.args.place (Value c.in-Value.number c.in-Value.width) c.in-Value.ensures in
     omega (arith, (subst (Fits (length (drop c.args.place b))) e (fits 10 (drop c.args.place b))).1, length-drop c.args.place b, c.requires)
 
-pub returns-in-Value : goal.returns-in-Value
+pub returns-in_ok-entry-in-Value : goal.returns-in_ok-entry-in-Value
 unfolding number_at
-returns-in-Value c = c.fitting.ensures ∙ ap (number_from c.args.place) (sym (said_by c.args.bytes.now c.args.place (Value c.in-Value.number c.in-Value.width) c.in-Value.ensures))
+returns-in_ok-entry-in-Value c = c.in_ok-entry-in-Value.ensures ∙ ap (number_from c.args.place) (sym (said_by c.args.bytes.now c.args.place (Value c.in-Value.number c.in-Value.width) c.in-Value.ensures))
+
+pub returns-in_err-entry-in-Value : goal.returns-in_err-entry-in-Value
+unfolding number_at
+returns-in_err-entry-in-Value c =
+    rw (passed_on _ c.from_residual-in_err-entry-in-Value.ensures.1)
+    (c.in_err-entry-in-Value.ensures ∙ ap (number_from c.args.place) (sym (said_by c.args.bytes.now c.args.place (Value c.in-Value.number c.in-Value.width) c.in-Value.ensures)))
 
 pub returns-in-Cut : goal.returns-in-Cut
 unfolding number_at
 returns-in-Cut c = ap (number_from c.args.place) (sym (said_by c.args.bytes.now c.args.place Cut c.in-Cut.ensures))
 
-pub returns-in-More : goal.returns-in-More
+pub returns-in_ok-entry-in-More : goal.returns-in_ok-entry-in-More
 unfolding number_at
-returns-in-More c =
-    c.long_number.ensures
+returns-in_ok-entry-in-More c =
+    c.in_ok-entry-in-More.ensures
     ∙ ap (λ (l : List ℕ). number_from c.args.place (said 10 l)) (from_place c.args.bytes.now c.args.place)
+
+pub returns-in_err-entry-in-More : goal.returns-in_err-entry-in-More
+unfolding number_at
+returns-in_err-entry-in-More c =
+    rw (passed_on _ c.from_residual-in_err-entry-in-More.ensures.1)
+    (c.in_err-entry-in-More.ensures
+    ∙ ap (λ (l : List ℕ). number_from c.args.place (said 10 l)) (from_place c.args.bytes.now c.args.place))
