@@ -48,8 +48,8 @@ pub fn event_of(number: u32, bit: u32, token: Token) -> Event
 pub fn also_of(number: u32, token_refusal: u32) -> u32
     ensures { result ≡ also_of number token_refusal }
 {
-    if (number == schema::HELLO) | (number == schema::DAT) {
-        return token_refusal;
+    match number {
+        schema::HELLO | schema::DAT => token_refusal,
+        _ => refusals::NONE,
     }
-    refusals::NONE
 }

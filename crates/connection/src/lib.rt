@@ -55,7 +55,7 @@ pub fn step(
 }
 
 // One step on a record that is lent in numbers; it writes the actions in numbers too. `also` is a refusal of the host's
-// interface, 0 for none: it is given where the step refuses nothing.
+// interface by its number there, 0 for none: it is given where the step refuses nothing.
 pub fn step_flat(
     numbers: &mut [u32; 12],
     also: u32,

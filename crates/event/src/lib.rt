@@ -20,7 +20,8 @@ pub mod timers;
 // The most bytes of a payload, and the fewest of a cache.
 const MAX_PAYLOAD: usize = 4096;
 
-// An event as the host hands it over. Only the fields that its code carries are read.
+// An event as the host hands it over. Only the fields that its code carries are read. Code, timer and bit are numbers, since
+// the step answers an unknown one with a refusal.
 #[derive(Clone, Copy)]
 pub struct Event {
     pub code: u32,
@@ -145,14 +146,13 @@ pub fn choose_suites(code: u32, lists: Lists<'_>) -> Result<Chosen, TooLong>
     lists.choose()
 }
 
-// Nested as the list of the definition is.
 fn carries_payload(code: u32) -> bool
     ensures { result ≡ carries_payload code }
 {
-    (code == UPPER_SEND_DATA)
-        | ((code == RA_VERIFIER_MSG)
-            | ((code == RA_PROVER_MSG)
-                | ((code == SC_RA_PROVER) | ((code == SC_RA_VERIFIER) | (code == SC_DATA)))))
+    matches!(
+        code,
+        UPPER_SEND_DATA | RA_VERIFIER_MSG | RA_PROVER_MSG | SC_RA_PROVER | SC_RA_VERIFIER | SC_DATA
+    )
 }
 
 // A payload's length, 0 if it is too long.

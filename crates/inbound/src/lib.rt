@@ -23,10 +23,7 @@ pub struct Receipt {
 fn first(list: &[u32], count: usize) -> &[u32]
     ensures { result.now ≡ first_entries count list.now }
 {
-    if count > list.len() {
-        return &list[..0];
-    }
-    &list[..count]
+    list.get(..count).unwrap_or(&[])
 }
 
 // Reads a message and steps with the event that it is. Bytes that are refused change nothing. `token_refusal` is a refusal

@@ -1,3 +1,4 @@
 pub mod Good
 pub mod NoMargin
 pub mod Numbers
+pub mod Once
