@@ -18,7 +18,7 @@ use table::codes::{
 use transfer::{receive_ack, receive_data, repeat_data, send_data};
 
 // Writes the record and the actions after the event. Each event does so in its own arm, since an outcome that the arms hand on is
-// copied: one call of `put` for all took a quarter more instructions. A code that never moves on counts as ACK_TIMEOUT.
+// copied: one call of `put` for all was tried, and took a fifth more instructions. A code that never moves on counts as ACK_TIMEOUT.
 pub fn move_on(
     numbers: &mut [u32; 12],
     slots: &mut [u32; 16],

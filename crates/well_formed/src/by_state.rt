@@ -57,8 +57,8 @@ const DAT_RA_ACK: Tags = Tags {
     ..DAT_RA
 };
 
-// Whether number, flag, bits and tags are those of the state. Each state has its constants: a test for each tag, of the set of states in
-// which it is on, was tried and took twice the instructions.
+// Whether number, flag, bits and tags are those of the state. Each state has its constants: a test for each tag, by the set of states in
+// which it is on, was tried, and a step took 40 instructions more.
 pub(crate) fn fits_state(c: Connection) -> bool
     requires { T (leb c.state 9) }
     ensures { result ≡ fits_state c.state c }
