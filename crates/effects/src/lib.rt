@@ -4,9 +4,8 @@
 #![tactic(auto)]
 
 ghost use Rattle.std.specs.Prelude.{◌≡◌};
-ghost use Rattle.effects.specs.ByEvent.{by_event, clear, moved_alone, order_by};
+ghost use Rattle.effects.specs.ByEvent.{clear, moved_alone, order_by};
 ghost use Rattle.protocol.specs.declared.Answer.TheVariants.{Handled};
-ghost use Rattle.protocol.specs.declared.Outcome.{Outcome};
 
 use event::Input;
 use protocol::{Actions, Answer, Outcome, orders};

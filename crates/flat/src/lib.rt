@@ -12,7 +12,7 @@ use record::Connection;
 pub fn as_number(yes: bool) -> u32
     ensures { result ≡ as_number yes }
 {
-    if yes { 1 } else { 0 }
+    u32::from(yes)
 }
 
 // The record that twelve numbers are.
@@ -71,7 +71,7 @@ pub fn slots_of(actions: Actions) -> [u32; 16]
         actions.ack,
         actions.dat_seconds,
         actions.bit,
-        as_number(actions.deliver),
+        u32::from(actions.deliver),
         actions.verifier_suite,
         actions.prover_suite,
         actions.payload_slice,
@@ -108,10 +108,7 @@ pub fn actions_in(slots: &[u32; 16]) -> Actions
 pub fn put(numbers: &mut [u32; 12], slots: &mut [u32; 16], outcome: Outcome) -> Answer
     ensures { Written outcome result numbers.new slots.new }
 {
-    let after = outcome.connection;
-    let orders = outcome.actions;
-    let answer = outcome.answer;
-    *numbers = numbers_of(after);
-    *slots = slots_of(orders);
-    answer
+    *numbers = numbers_of(outcome.connection);
+    *slots = slots_of(outcome.actions);
+    outcome.answer
 }

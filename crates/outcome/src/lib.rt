@@ -1,20 +1,22 @@
 // What a host reads off a step's outcome: the number of a refusal, and the payload part that the actions name.
 #![tactic(auto)]
 
-ghost use Rattle.std.specs.Prelude.{◌≡◌};
+ghost use Rattle.std.specs.Prelude.{◌≡◌, is_some};
+ghost use Rattle.outcome.specs.Refusal.{number_of, refuses};
 ghost use Rattle.protocol.specs.Block as spec;
 ghost use Rattle.protocol.specs.Step.{refusal_number};
 
-use protocol::{Actions, Answer, orders, refusals};
+use protocol::{Actions, Answer, orders};
 
-// The number of a refusal, 0 for an answer that is none.
-pub fn refusal_number(answer: Answer) -> u32
-    ensures { result ≡ refusal_number answer }
+// The number of a refusal, `None` for an answer that is none.
+pub fn refusal_number(answer: Answer) -> Option<u32>
+    ensures value { number_of result ≡ refusal_number answer }
+    ensures presence { is_some result ≡ refuses answer }
 {
-    let Answer::Refused(number) = answer else {
-        return refusals::NONE;
-    };
-    number
+    match answer {
+        Answer::Refused(number) => Some(number),
+        Answer::Handled | Answer::Ignored => None,
+    }
 }
 
 // The payload part of a call's actions: of the event's payload, or of the cache as the step left it.
@@ -27,7 +29,7 @@ pub fn part<'a>(actions: Actions, payload: &'a [u8], cache: &'a [u8]) -> &'a [u8
     match slice {
         orders::OF_EVENT => front(payload, len),
         orders::OF_CACHE => front(cache, len),
-        _ => front(payload, 0),
+        _ => &[],
     }
 }
 
@@ -35,9 +37,5 @@ pub fn part<'a>(actions: Actions, payload: &'a [u8], cache: &'a [u8]) -> &'a [u8
 fn front(bytes: &[u8], len: usize) -> &[u8]
     ensures { result.now ≡ spec.front len bytes.now }
 {
-    if len <= bytes.len() {
-        &bytes[..len]
-    } else {
-        &bytes[..0]
-    }
+    bytes.get(..len).unwrap_or(&[])
 }

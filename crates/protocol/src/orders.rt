@@ -1,4 +1,4 @@
-// The numbers in the slots of `Actions`.
+// The numbers in the slots of `Actions`. They are numbers and no enums, since the order sheet of the C interface holds these.
 
 // No message, no order, no payload.
 pub const NONE: u32 = 0;

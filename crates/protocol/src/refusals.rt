@@ -1,4 +1,4 @@
-// The numbers of the refusals.
+// The numbers of the refusals. They are numbers and no enum, since `Answer` also holds a refusal of the host's interface, which is any number.
 
 // No refusal.
 pub const NONE: u32 = 0;

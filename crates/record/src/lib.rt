@@ -6,8 +6,8 @@ ghost use Rattle.record.specs.WellFormed as spec;
 
 use table::states;
 
-// The record of a connection. A tag is 0 when its driver or timer is off, else the number of the
-// handled event that started it.
+// The record of a connection. Its fields are numbers, since a host may lend any twelve: `well_formed` tests them. A tag is 0 when
+// its driver or timer is off, else the number of the handled event that started it.
 #[derive(Clone, Copy)]
 pub struct Connection {
     pub state: u32,

@@ -1,7 +1,7 @@
--- The cells of the published table beyond its codes and its states.
+-- The cells of the published table beyond its last state that acts.
 -- Assumes nothing.
 use mathlib.Core.Path.{◌≡◌, sym}
-use mathlib.Core.Bool.{Bool, true, ◌&&◌, cond}
+use mathlib.Core.Bool.{Bool, true, ◌&&◌}
 use mathlib.Core.List.{List, [], ◌∷◌}
 use Prim.Native.Nat.{ℕ, zero, suc, ◌≤◌}
 use native.Mathlib.Decide.{ℕ_discrete}
@@ -9,22 +9,7 @@ use native.Mathlib.Omega.{arith}
 use lib.Dec.{T, eqb, eqb→eq, leb, leb→le}
 use lib.ListN.{length, get_or, get_or-eq_default}
 use Rattle.table.proofs.Finite.{and_left, and_right}
-use Rattle.table.specs.Table.{row, when_held, when_not, cell}
-
--- The cells of a state where the condition holds.
-abbrev pub held : (state code : ℕ) → ℕ
-held state code = cell state code true
-
-pub no_code : (state k : ℕ) → 24 ≤ k → 11 ≡ held state k
-unfolding cell
-no_code state k h = rw (get_or-eq_default when_held [] h)
-
--- A row has ten states.
-pub no_state : (code : ℕ) (b : Bool) → T (leb (length (cond b (get_or when_held code []) (when_not code))) 10) → (s : ℕ) → 10 ≤ s → 11 ≡ cell s code b
-unfolding cell
-no_state code b t s h =
-    let l = leb→le (length (cond b (get_or when_held code []) (when_not code))) 10 t in
-    sym (get_or-eq_default (cond b (get_or when_held code []) (when_not code)) 11 (omega arith))
+use Rattle.table.specs.Table.{row, when_held, cell}
 
 -- A row of ten states whose last is ignored.
 abbrev ends : List ℕ → Bool
@@ -46,6 +31,6 @@ by_row row t s h (no e) =
     sym (get_or-eq_default row 11 (omega arith))
 
 -- State 9 ignores every event.
-pub locked : (s code : ℕ) → 9 ≤ s → 11 ≡ held s code
+pub locked : (s code : ℕ) → 9 ≤ s → 11 ≡ cell s code true
 unfolding cell
 locked s code h = by_row (get_or when_held code []) (at_row when_held tt code) s h (ℕ_discrete s 9)

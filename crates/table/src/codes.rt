@@ -1,4 +1,4 @@
-// The codes of the events, by document 01's names.
+// The codes of the events, by document 01's names. They are numbers and no enum, since the step takes any number as a code.
 
 pub const UPPER_START_HANDSHAKE: u32 = 0;
 

@@ -1,4 +1,4 @@
-// The states, by document 01's names.
+// The states, by document 01's names. They are numbers and no enum, since the step takes a record with any number as its state.
 
 pub const CLOSED_UNLOCKED: u32 = 0;
 

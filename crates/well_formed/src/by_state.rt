@@ -1,107 +1,104 @@
 // What number, flag, bits and tags of a well-formed record are in each state.
-ghost use Rattle.std.specs.Prelude.{◌≡◌, not, cond, eqb};
-ghost use Rattle.record.specs.Tags.{runs_in};
-ghost use Rattle.record.specs.Timer.{H, HP, HV, DAT, RA, ACK};
-ghost use Rattle.record.specs.WellFormed as spec;
+ghost use Rattle.std.specs.Prelude.{◌≡◌, ◌&&◌, T, eqb, leb};
+ghost use Rattle.record.specs.WellFormed.{fits_state};
+ghost use Rattle.well_formed.specs.Tag.{on_just};
 
 use record::Connection;
-use table::states::{
-    CLOSED_LOCKED, CLOSED_UNLOCKED, ESTABLISHED, WAIT_FOR_ACK, WAIT_FOR_DAT_AND_RA,
-    WAIT_FOR_DAT_AND_RA_VERIFIER, WAIT_FOR_HELLO, WAIT_FOR_RA, WAIT_FOR_RA_PROVER,
-    WAIT_FOR_RA_VERIFIER,
+use table::states;
+
+// Which tags are on.
+#[derive(Clone, Copy)]
+struct Tags {
+    h: bool,
+    prover: bool,
+    verifier: bool,
+    dat: bool,
+    ra: bool,
+    ack: bool,
+}
+
+const NONE: Tags = Tags {
+    h: false,
+    prover: false,
+    verifier: false,
+    dat: false,
+    ra: false,
+    ack: false,
 };
 
-// Whether number, flag, bits and tags are those of the state.
+const H: Tags = Tags { h: true, ..NONE };
+
+const H_PROVER: Tags = Tags { prover: true, ..H };
+
+const DAT_VERIFIER: Tags = Tags {
+    dat: true,
+    verifier: true,
+    ..NONE
+};
+
+const DAT_BOTH: Tags = Tags {
+    prover: true,
+    ..DAT_VERIFIER
+};
+
+const DAT_RA: Tags = Tags {
+    dat: true,
+    ra: true,
+    ..NONE
+};
+
+const DAT_RA_PROVER: Tags = Tags {
+    prover: true,
+    ..DAT_RA
+};
+
+const DAT_RA_ACK: Tags = Tags {
+    ack: true,
+    ..DAT_RA
+};
+
+// Whether number, flag, bits and tags are those of the state. Each state has its constants: a test for each tag, by the set of states in
+// which it is on, was tried, and a step took 40 instructions more.
 pub(crate) fn fits_state(c: Connection) -> bool
-    ensures { result ≡ spec.fits_state c.state c }
+    requires { T (leb c.state 9) }
+    ensures { result ≡ fits_state c.state c }
 {
-    number_fits(c.state, c.handled)
-        & bits_fit(c.state, c.next_send_bit, c.expected_bit)
-        & flag_fits(c.state, c.awaiting_ack)
-        & is_on_just(h_runs(c.state), c.h)
-        & is_on_just(prover_runs(c.state), c.prover)
-        & is_on_just(verifier_runs(c.state), c.verifier)
-        & is_on_just(dat_runs(c.state), c.dat)
-        & is_on_just(ra_runs(c.state), c.ra)
-        & is_on_just(ack_runs(c.state), c.ack)
-}
-
-// The number is 0 in the state of a new connection.
-fn number_fits(state: u32, handled: u32) -> bool
-    ensures { result ≡ spec.number_fits state handled }
-{
-    (state != CLOSED_UNLOCKED) | (handled == 0)
-}
-
-// The bits are 0 in the closed states and before the hello.
-fn bits_fit(state: u32, next_send: u32, expected: u32) -> bool
-    ensures { result ≡ spec.bits_fit state next_send expected }
-{
+    let state = c.state;
     match state {
-        CLOSED_UNLOCKED | WAIT_FOR_HELLO | CLOSED_LOCKED => (next_send == 0) & (expected == 0),
-        _ => true,
+        states::CLOSED_UNLOCKED => (c.handled == 0) & fits_closed(NONE, c),
+        states::WAIT_FOR_HELLO => fits_closed(H, c),
+        states::WAIT_FOR_RA => tags_fit(DAT_BOTH, c),
+        states::WAIT_FOR_RA_PROVER => tags_fit(DAT_RA_PROVER, c),
+        states::WAIT_FOR_RA_VERIFIER => tags_fit(DAT_VERIFIER, c),
+        states::WAIT_FOR_DAT_AND_RA => tags_fit(H_PROVER, c),
+        states::WAIT_FOR_DAT_AND_RA_VERIFIER => tags_fit(H, c),
+        states::ESTABLISHED => (c.awaiting_ack == 0) & tags_fit(DAT_RA, c),
+        states::WAIT_FOR_ACK => (c.awaiting_ack == 1) & tags_fit(DAT_RA_ACK, c),
+        _ => fits_closed(NONE, c),
     }
 }
 
-// No block waits in the closed states, before the hello and in ESTABLISHED; one waits in WAIT_FOR_ACK.
-fn flag_fits(state: u32, awaiting_ack: u32) -> bool
-    ensures { result ≡ spec.flag_fits state awaiting_ack }
+// Whether bits and flag are 0, and just these tags are on.
+fn fits_closed(on: Tags, c: Connection) -> bool
+    ensures { result ≡ ((eqb c.next_send_bit 0 && eqb c.expected_bit 0) && (eqb c.awaiting_ack 0 && (on_just on.h c.h && on_just on.prover c.prover && on_just on.verifier c.verifier && on_just on.dat c.dat && on_just on.ra c.ra && on_just on.ack c.ack))) }
 {
-    match state {
-        CLOSED_UNLOCKED | WAIT_FOR_HELLO | ESTABLISHED | CLOSED_LOCKED => awaiting_ack == 0,
-        WAIT_FOR_ACK => awaiting_ack == 1,
-        _ => true,
-    }
+    ((c.next_send_bit == 0) & (c.expected_bit == 0)) & ((c.awaiting_ack == 0) & tags_fit(on, c))
 }
 
-// Whether a tag is on where its driver or timer runs, and off elsewhere.
-fn is_on_just(runs: bool, tag: u32) -> bool
-    ensures { result ≡ cond runs (not (eqb tag 0)) (eqb tag 0) }
+// Whether just these tags are on.
+fn tags_fit(on: Tags, c: Connection) -> bool
+    ensures { result ≡ (on_just on.h c.h && on_just on.prover c.prover && on_just on.verifier c.verifier && on_just on.dat c.dat && on_just on.ra c.ra && on_just on.ack c.ack) }
+{
+    on_just(on.h, c.h)
+        & on_just(on.prover, c.prover)
+        & on_just(on.verifier, c.verifier)
+        & on_just(on.dat, c.dat)
+        & on_just(on.ra, c.ra)
+        & on_just(on.ack, c.ack)
+}
+
+fn on_just(runs: bool, tag: u32) -> bool
+    ensures { result ≡ on_just runs tag }
 {
     runs == (tag != 0)
-}
-
-fn h_runs(state: u32) -> bool
-    ensures { result ≡ runs_in H state }
-{
-    matches!(
-        state,
-        WAIT_FOR_HELLO | WAIT_FOR_DAT_AND_RA | WAIT_FOR_DAT_AND_RA_VERIFIER
-    )
-}
-
-fn prover_runs(state: u32) -> bool
-    ensures { result ≡ runs_in HP state }
-{
-    matches!(
-        state,
-        WAIT_FOR_RA | WAIT_FOR_RA_PROVER | WAIT_FOR_DAT_AND_RA
-    )
-}
-
-fn verifier_runs(state: u32) -> bool
-    ensures { result ≡ runs_in HV state }
-{
-    matches!(state, WAIT_FOR_RA | WAIT_FOR_RA_VERIFIER)
-}
-
-fn dat_runs(state: u32) -> bool
-    ensures { result ≡ runs_in DAT state }
-{
-    matches!(
-        state,
-        WAIT_FOR_RA | WAIT_FOR_RA_PROVER | WAIT_FOR_RA_VERIFIER | ESTABLISHED | WAIT_FOR_ACK
-    )
-}
-
-fn ra_runs(state: u32) -> bool
-    ensures { result ≡ runs_in RA state }
-{
-    matches!(state, WAIT_FOR_RA_PROVER | ESTABLISHED | WAIT_FOR_ACK)
-}
-
-fn ack_runs(state: u32) -> bool
-    ensures { result ≡ runs_in ACK state }
-{
-    state == WAIT_FOR_ACK
 }

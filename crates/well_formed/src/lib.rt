@@ -20,7 +20,10 @@ const MAX_CACHED: u32 = 4096;
 pub fn well_formed(connection: Connection) -> bool
     ensures { result ≡ spec.well_formed limits connection }
 {
-    fields_fit(connection) & tags_at_most(connection.handled, connection) & fits_state(connection)
+    if !(fields_fit(connection) & tags_at_most(connection.handled, connection)) {
+        return false;
+    }
+    fits_state(connection)
 }
 
 // The ranges of state, flag, bits and length, and no length without the flag.
