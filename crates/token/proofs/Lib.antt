@@ -1,4 +1,3 @@
 pub mod Good
 pub mod NoMargin
 pub mod Numbers
-pub mod Once

@@ -52,16 +52,32 @@ pub fn margin_too_large(margin: u32) -> bool
     margin > MAX_MARGIN
 }
 
-// Expiry minus now minus margin, clamped to a day either way. Where 64 bits do not hold a difference the subtraction stops
-// at their bounds, which lie so far beyond a day that the margin does not bring it back.
+// Expiry minus now minus margin, worked out exactly, then clamped to a day either way. Expiry minus now is compared with
+// both bounds raised by the margin, which is taken last; comparing `now` first with expiry less a bound keeps the
+// subtraction within 64 bits.
 pub fn seconds_left(expiry: i64, now: i64, margin: u32) -> Result<i64, MarginTooLarge>
     ensures { answer_of result ≡ time_left expiry now margin }
 {
     if margin_too_large(margin) {
         return Err(MarginTooLarge);
     }
-    let left = expiry
-        .saturating_sub(now)
-        .saturating_sub_unsigned(u64::from(margin));
-    Ok(left.clamp(MINUS_DAY, DAY))
+    let early = margin as i64;
+    let least = early - DAY;
+    let most = early + DAY;
+    if expiry < 0 {
+        if expiry - least < now {
+            return Ok(MINUS_DAY);
+        }
+    } else if now < expiry - most {
+        return Ok(DAY);
+    }
+    let apart = expiry - now;
+    if apart < least {
+        return Ok(MINUS_DAY);
+    }
+    if most < apart {
+        return Ok(DAY);
+    }
+    let left = apart - early;
+    Ok(left)
 }
