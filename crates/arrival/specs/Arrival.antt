@@ -1,5 +1,5 @@
 -- Request #101, "Joined to the step": the event that a message is.
-use Rattle.std.specs.Prelude.{ℕ, ◌||◌, cond, [], ◌∷◌, eqb, get_or}
+use Rattle.std.specs.Prelude.{ℕ, ◌||◌, Option, None, cond, [], ◌∷◌, eqb, get_or}
 use Rattle.event.specs.declared.Event.{Event}
 use Rattle.token.specs.declared.Token.{Token}
 
@@ -34,7 +34,7 @@ event_with code bit token = record {
 abbrev pub event_of : (number bit : ℕ) → Token → Event
 event_of number bit token = event_with (code_of number) bit token
 
--- `token_refusal` is what the host's interface refuses of the token, 0 for nothing. It counts for HELLO and DAT alone, which
+-- `token_refusal` is what the host's interface refuses of the token, if anything. It counts for HELLO and DAT alone, which
 -- carry one.
-abbrev pub also_of : (number token_refusal : ℕ) → ℕ
-also_of number token_refusal = cond (eqb number 1 || eqb number 4) token_refusal 0
+abbrev pub also_of : (number : ℕ) (token_refusal : Option ℕ) → Option ℕ
+also_of number token_refusal = cond (eqb number 1 || eqb number 4) token_refusal None

@@ -6,7 +6,6 @@ ghost use Rattle.arrival.specs.Arrival.{also_of, code_of, event_of};
 
 use event::Event;
 use fields::schema;
-use protocol::refusals;
 use table::codes;
 use token::Token;
 
@@ -45,11 +44,11 @@ pub fn event_of(number: u32, bit: u32, token: Token) -> Event
 }
 
 // A refusal of the host's interface concerns the messages that carry a token.
-pub fn also_of(number: u32, token_refusal: u32) -> u32
+pub fn also_of(number: u32, token_refusal: Option<u32>) -> Option<u32>
     ensures { result ≡ also_of number token_refusal }
 {
     match number {
         schema::HELLO | schema::DAT => token_refusal,
-        _ => refusals::NONE,
+        _ => None,
     }
 }

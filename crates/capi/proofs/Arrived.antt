@@ -5,6 +5,7 @@ use Prim.Native.Nat.{ℕ, zero, suc, ◌+◌}
 use native.Mathlib.Omega.{arith}
 use lib.ListN.{length, take, drop}
 use borrow.Author.Tests.{le-ltb, ne_eqb}
+use Rattle.std.specs.Prelude.{Option}
 use Rattle.connection.specs.Also.{result_also}
 use Rattle.flat.specs.Flat.{record_in}
 use Rattle.arrival.specs.Arrival.{also_of, code_of}
@@ -47,7 +48,7 @@ module _ (connection bytes cache : List ℕ) (token : FlatToken) (our_verifiers 
       ≡ returned_of (received (record_in connection) bytes g cache)
   unfolding returned received
   stepped m e =
-      ap (λ (also : ℕ). returned_of (result_also also (record_in connection) (call_from m bytes g) cache)) (same_refusal m.number m.bit token)
+      ap (λ (also : Option ℕ). returned_of (result_also also (record_in connection) (call_from m bytes g) cache)) (same_refusal m.number m.bit token)
       ∙ ap (λ (r : Reading Message). returned_of (received_as (record_in connection) r bytes g cache)) (sym e)
 
 pub joined_to_step : JoinedToStep

@@ -6,6 +6,7 @@ use mathlib.Core.List.{List, [], ◌∷◌}
 use Prim.Native.Nat.{ℕ}
 use lib.Dec.{eqb}
 use lib.ListN.{length}
+use Rattle.std.specs.Prelude.{None, Some}
 use Rattle.connection.specs.Also.{result_also}
 use Rattle.decision.specs.Also.{decided_also}
 use Rattle.flat.specs.Flat.{record_in}
@@ -34,31 +35,31 @@ right : (numbers cache : List ℕ) (call : FlatCall) → wrong_verdict call.even
     → returned numbers call.event call.payload cache call.our_verifiers call.peer_provers call.peer_verifiers call.our_provers ≡ returned_of (result_of limits (record_in numbers) (call_in call) cache)
 unfolding returned
 right numbers cache call e =
-    ap (λ (b : Bool). returned_of (result_also (cond b refused_verdict 0) (record_in numbers) (call_in call) cache)) e ∙
+    ap (λ (b : Bool). returned_of (result_also (cond b (Some refused_verdict) None) (record_in numbers) (call_in call) cache)) e ∙
     ap returned_of (none_also (record_in numbers) (call_in call) cache)
 
 -- One that the interface refuses is refused with the step's number, or with the interface's where the step refuses nothing; nothing changes.
-module _ (also : ℕ) (some : eqb also 0 ≡ false) (connection : Connection) (call : Call) (cache : List ℕ) where
+module _ (number : ℕ) (connection : Connection) (call : Call) (cache : List ℕ) where
   abbrev refused_with : ℕ
-  refused_with = let n = refusal_of limits connection call (length cache) in cond (eqb n 0) also n
+  refused_with = let n = refusal_of limits connection call (length cache) in cond (eqb n 0) number n
 
-  stays : result_also also connection call cache ≡ still (Refused refused_with) connection cache
+  stays : result_also (Some number) connection call cache ≡ still (Refused refused_with) connection cache
   unfolding result_also decided_also decided part_of
   stays =
       ap (λ (o : Outcome). result_with o call.payload (cache_after o.answer call cache)) (by_refusal (eqb (refusal_of limits connection call (length cache)) 0) refl)
     where
-      by_refusal : (b : Bool) → eqb (refusal_of limits connection call (length cache)) 0 ≡ b → decided_also also connection call.event.code (input_of limits call (length cache)) ≡ unchanged (Refused refused_with) connection
-      by_refusal true e = rw (e, some)
+      by_refusal : (b : Bool) → eqb (refusal_of limits connection call (length cache)) 0 ≡ b → decided_also (Some number) connection call.event.code (input_of limits call (length cache)) ≡ unchanged (Refused refused_with) connection
+      by_refusal true e = rw e
       by_refusal false e = rw e
 
 -- So a call with a wrong verdict changes nothing.
 pub wrong_changes_nothing : (numbers cache : List ℕ) (call : FlatCall) → wrong_verdict call.event ≡ true
     → returned numbers call.event call.payload cache call.our_verifiers call.peer_provers call.peer_verifiers call.our_provers
-    ≡ returned_of (still (Refused (refused_with refused_verdict refl (record_in numbers) (call_in call) cache)) (record_in numbers) cache)
+    ≡ returned_of (still (Refused (refused_with refused_verdict (record_in numbers) (call_in call) cache)) (record_in numbers) cache)
 unfolding returned
 wrong_changes_nothing numbers cache call e =
-    ap (λ (b : Bool). returned_of (result_also (cond b refused_verdict 0) (record_in numbers) (call_in call) cache)) e ∙
-    ap returned_of (stays refused_verdict refl (record_in numbers) (call_in call) cache)
+    ap (λ (b : Bool). returned_of (result_also (cond b (Some refused_verdict) None) (record_in numbers) (call_in call) cache)) e ∙
+    ap returned_of (stays refused_verdict (record_in numbers) (call_in call) cache)
 
 holds_same : (got : Got) (a b : Returned) → a ≡ b → Holds got a → Holds got b
 holds_same got a b e h = record {

@@ -1,13 +1,14 @@
 -- The payload part that a sheet names lies within its slice.
 -- Assumes nothing.
 use mathlib.Core.Path.{◌≡◌, refl, sym, subst⁻¹, ◌∙◌}
-use mathlib.Core.Bool.{Bool, true, false, not, ◌&&◌, cond}
+use mathlib.Core.Bool.{Bool, true, false, cond}
 use mathlib.Core.List.{List, [], ◌∷◌}
 use Prim.Native.Nat.{ℕ, ◌≤◌}
 use native.Mathlib.Omega.{arith}
 use lib.Dec.{T, eqb}
 use lib.ListN.{length, length-append, take}
 use borrow.Author.Tests.{eqb-true}
+use Rattle.std.specs.Prelude.{Option, None, Some}
 use Rattle.connection.specs.Also.{result_also}
 use Rattle.decision.specs.Also.{decided_also}
 use Rattle.event.specs.Call.{Call, carries_payload, input_of}
@@ -75,12 +76,13 @@ step_fits connection call cache = by_step (stepped limits connection call cache)
     by_step (handled n i e) = subst⁻¹ (Fits call.payload) e (moved_fits connection call cache (next limits connection call cache) (unrefused limits connection call cache n))
 
 -- A call at the interface.
-also_fits : (also : ℕ) (connection : Connection) (call : Call) (cache : List ℕ) → Fits call.payload (result_also also connection call cache)
+also_fits : (also : Option ℕ) (connection : Connection) (call : Call) (cache : List ℕ) → Fits call.payload (result_also also connection call cache)
 unfolding result_also decided_also result_of
-also_fits also connection call cache = by_refusal (eqb (refusal_of limits connection call (length cache)) 0 && not (eqb also 0))
+also_fits None connection call cache = step_fits connection call cache
+also_fits (Some number) connection call cache = by_refusal (eqb (refusal_of limits connection call (length cache)) 0)
   where
     by_refusal : (b : Bool)
-        → Fits call.payload (result_with (cond b (unchanged (Refused also) connection) (step_of limits connection call (length cache))) call.payload (cache_after (cond b (unchanged (Refused also) connection) (step_of limits connection call (length cache))).answer call cache))
+        → Fits call.payload (result_with (cond b (unchanged (Refused number) connection) (step_of limits connection call (length cache))) call.payload (cache_after (cond b (unchanged (Refused number) connection) (step_of limits connection call (length cache))).answer call cache))
     by_refusal true = omega arith
     by_refusal false = step_fits connection call cache
 
@@ -96,7 +98,7 @@ part_is actions payload cache = by_slice actions.payload_len (eqb actions.payloa
     by_slice n false false h = let z : n ≡ 0 = omega arith in rw z
 
 -- The part as a host takes it, by the slots and the cache that a call left.
-pub taken : (also : ℕ) (connection : Connection) (call : Call) (cache slots after : List ℕ) → slots ≡ slots_of (result_also also connection call cache).outcome.actions → after ≡ (result_also also connection call cache).cache
+pub taken : (also : Option ℕ) (connection : Connection) (call : Call) (cache slots after : List ℕ) → slots ≡ slots_of (result_also also connection call cache).outcome.actions → after ≡ (result_also also connection call cache).cache
     → Within slots call.payload after × (part_in slots call.payload after ≡ (result_also also connection call cache).part)
 unfolding result_also
 taken also connection call cache slots after s k =

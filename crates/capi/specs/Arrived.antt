@@ -1,5 +1,5 @@
 -- Request #101, "Joined to the step": a message that arrived, as a host in C hands it over.
-use Rattle.std.specs.Prelude.{ℕ, ◌+◌, ◌≤◌, ◌≡◌, cond, List, [], eqb, ltb, length, take, drop}
+use Rattle.std.specs.Prelude.{ℕ, ◌+◌, ◌≤◌, ◌≡◌, Option, None, Some, cond, List, [], eqb, ltb, length, take, drop}
 use Rattle.flat.specs.Flat.{record_in}
 use Rattle.arrival.specs.Arrival.{code_of}
 use Rattle.inbound.specs.Received.{given, received}
@@ -19,8 +19,8 @@ abbrev pub token_of : FlatToken → Token
 token_of token = record { verdict = eqb token.verdict 1; margin = token.margin; expiry = token.expiry; now = token.now }
 
 -- What the interface refuses of a token: a verdict that is neither 0 nor 1.
-abbrev pub token_refusal : FlatToken → ℕ
-token_refusal token = cond (ltb 1 token.verdict) refused_verdict 0
+abbrev pub token_refusal : FlatToken → Option ℕ
+token_refusal token = cond (ltb 1 token.verdict) (Some refused_verdict) None
 
 -- What `menhotrac_read` promises of its answer and the two lists, as far as the step uses it.
 pub record ReadFrom (bytes : List ℕ) (r : FlatMessage) (provers verifiers : List ℕ) : Type 0 where

@@ -40,7 +40,7 @@ pub fn step(
     let mut slots = slots_of(NO_ACTIONS);
     let answer = step_flat(
         &mut numbers,
-        refusals::NONE,
+        None,
         event,
         payload,
         lists,
@@ -55,10 +55,10 @@ pub fn step(
 }
 
 // One step on a record that is lent in numbers; it writes the actions in numbers too. `also` is a refusal of the host's
-// interface by its number there, 0 for none: it is given where the step refuses nothing.
+// interface by its number there: it is given where the step refuses nothing.
 pub fn step_flat(
     numbers: &mut [u32; 12],
-    also: u32,
+    also: Option<u32>,
     event: Event,
     payload: &[u8],
     lists: Lists<'_>,

@@ -7,7 +7,7 @@ use Prim.Native.Nat.{ℕ, ◌<◌}
 use native.Mathlib.Omega.{arith}
 use lib.Dec.{T, eqb, eqb→eq}
 use borrow.Author.Tests.{eq-eqb, ne_eqb, ltb-false, not-false}
-use Rattle.std.specs.Prelude.{None, Some}
+use Rattle.std.specs.Prelude.{Option, None, Some}
 use Rattle.record.specs.Limits.{limits}
 use Rattle.record.specs.WellFormed.{well_formed}
 use Rattle.record.specs.declared.Connection.{Connection}
@@ -34,35 +34,42 @@ lowest connection code input = first_fault 1 (lower_faults limits connection cod
 is_zero : (n k : ℕ) → eqb n k ≡ true → n ≡ k
 is_zero n k e = eqb→eq n k (subst (λ (b : Bool). T b) (sym e) tt)
 
-module _ (also : ℕ) (connection : Connection) (code : ℕ) (input : Input) where
+-- An outcome that refuses nothing, or a refusal that comes in its place.
+abbrev pub late_outcome : Option ℕ → Connection → Outcome → Outcome
+late_outcome None connection o = o
+late_outcome (Some number) connection o = unchanged (Refused number) connection
+
+-- What is decided, of the step's own outcome: where that refuses, and where it refuses nothing.
+of_refused : (also : Option ℕ) (connection : Connection) (code : ℕ) (input : Input) (o : Outcome) → eqb (refusal_number o.answer) 0 ≡ false → o ≡ decided limits connection code input
+    → o ≡ decided_also also connection code input
+unfolding decided_also
+of_refused None connection code input o n e = e
+of_refused (Some k) connection code input o n e =
+    let m = sym n ∙ ap (λ (x : Outcome). eqb (refusal_number x.answer) 0) e ∙ ap (λ (r : ℕ). eqb r 0) (number_is limits connection code input) in
+    e ∙ (λ i. cond (m i) (unchanged (Refused k) connection) (decided limits connection code input))
+
+of_others : (also : Option ℕ) (connection : Connection) (code : ℕ) (input : Input) (o : Outcome) → refusal_number o.answer ≡ 0 → o ≡ decided limits connection code input
+    → late_outcome also connection o ≡ decided_also also connection code input
+unfolding decided_also
+of_others None connection code input o z e = e
+of_others (Some k) connection code input o z e =
+    let m = ap (λ (r : ℕ). eqb r 0) (sym z ∙ ap (λ (x : Outcome). refusal_number x.answer) e ∙ number_is limits connection code input) in
+    λ i. cond (m i) (unchanged (Refused k) connection) (decided limits connection code input)
+
+module _ (also : Option ℕ) (connection : Connection) (code : ℕ) (input : Input) where
   abbrev also_decided : Outcome
   also_decided = decided_also also connection code input
 
-  -- What is decided, of the step's own outcome.
-  also_of : (o : Outcome) → o ≡ decided limits connection code input → cond (eqb (refusal_number o.answer) 0 && not (eqb also 0)) (unchanged (Refused also) connection) o ≡ also_decided
-  unfolding decided_also
-  also_of o e =
-      let n = ap (λ (x : Outcome). refusal_number x.answer) e ∙ number_is limits connection code input in
-      λ i. cond (eqb (n i) 0 && not (eqb also 0)) (unchanged (Refused also) connection) (e i)
-
   -- The step refuses.
   refused_also : (number : ℕ) → eqb number 0 ≡ false → unchanged (Refused number) connection ≡ decided limits connection code input → unchanged (Refused number) connection ≡ also_decided
-  refused_also number n e = rw n at (also_of (unchanged (Refused number) connection) e)
+  refused_also number n e = of_refused also connection code input (unchanged (Refused number) connection) n e
 
   -- It gives an outcome unless fault 9 is present. Then what is decided goes by refusal 9 or, without its fault, that of the interface.
   late_also : (large : Bool) → (o : Outcome) → refusal_number o.answer ≡ 0
       → cond (eqb (cond large 9 0) 0) o (unchanged (Refused (cond large 9 0)) connection) ≡ decided limits connection code input
-      → cond (eqb (cond large 9 also) 0) o (unchanged (Refused (cond large 9 also)) connection) ≡ also_decided
-  late_also large o z e = by_large large e
-    where
-      by_also : (b : Bool) → cond (not b) (unchanged (Refused also) connection) o ≡ also_decided → cond b o (unchanged (Refused also) connection) ≡ also_decided
-      by_also true e = e
-      by_also false e = e
-
-      by_large : (b : Bool) → cond (eqb (cond b 9 0) 0) o (unchanged (Refused (cond b 9 0)) connection) ≡ decided limits connection code input
-          → cond (eqb (cond b 9 also) 0) o (unchanged (Refused (cond b 9 also)) connection) ≡ also_decided
-      by_large true e = also_of (unchanged (Refused 9) connection) e
-      by_large false e = by_also (eqb also 0) (rw z at (also_of o e))
+      → late_outcome (cond large (Some 9) also) connection o ≡ also_decided
+  late_also true o z e = of_refused also connection code input (unchanged (Refused 9) connection) refl e
+  late_also false o z e = of_others also connection code input o z e
 
   -- A fault from 1 to 7 is present.
   pub by_fault : (fault : ℕ) → refusal_numbered (lowest connection code input) ≡ Some fault → unchanged (Refused fault) connection ≡ also_decided
@@ -86,15 +93,15 @@ module _ (also : ℕ) (connection : Connection) (code : ℕ) (input : Input) whe
         subst (λ (b : Bool). T b) (sym (not-false (well_formed limits connection) w)) tt
 
     -- The event is ignored.
-    pub by_table : following (next_state connection code input) ≡ None → unchanged (unmoved_answer (refusal_numbered (cond input.margin_too_large 9 also))) connection ≡ also_decided
-    by_table e = chosen (eqb (cond input.margin_too_large 9 also) 0)
+    pub by_table : following (next_state connection code input) ≡ None → unchanged (unmoved_answer (cond input.margin_too_large (Some 9) also)) connection ≡ also_decided
+    by_table e = chosen (cond input.margin_too_large (Some 9) also)
         (late_also input.margin_too_large (unchanged Ignored connection) refl
         (judged.ignored limits connection code input (lowest connection code input) (next_state connection code input) _ refl refl refl no_fault
         (is_zero _ 11 (none_by (eqb (next_state connection code input) 11) (next_state connection code input) e))))
       where
-        chosen : (b : Bool) → cond b (unchanged Ignored connection) (unchanged (Refused (cond input.margin_too_large 9 also)) connection) ≡ also_decided → unchanged (unmoved_answer (cond b None (Some (cond input.margin_too_large 9 also)))) connection ≡ also_decided
-        chosen true e = e
-        chosen false e = e
+        chosen : (late : Option ℕ) → late_outcome late connection (unchanged Ignored connection) ≡ also_decided → unchanged (unmoved_answer late) connection ≡ also_decided
+        chosen None e = e
+        chosen (Some number) e = e
 
     -- The table lists it.
     module _ (to : ℕ) (next : following (next_state connection code input) ≡ Some to) where
@@ -126,15 +133,13 @@ module _ (also : ℕ) (connection : Connection) (code : ℕ) (input : Input) whe
 
       -- It is not.
       module _ (room : connection.handled ≡ 4294967295 → ⊥) where
-        goes : cond (eqb (cond input.margin_too_large 9 also) 0) (handled_to (next_state connection code input) connection code input) (unchanged (Refused (cond input.margin_too_large 9 also)) connection) ≡ also_decided
+        goes : late_outcome (cond input.margin_too_large (Some 9) also) connection (handled_to (next_state connection code input) connection code input) ≡ also_decided
         goes =
             late_also input.margin_too_large (handled_to (next_state connection code input) connection code input) refl
             (judged.handled limits connection code input (lowest connection code input) (next_state connection code input) false refl refl (ne_eqb connection.handled 4294967295 room) no_fault heard refl)
 
-        pub by_late_fault : (refusal : ℕ) → refusal_numbered (cond input.margin_too_large 9 also) ≡ Some refusal → unchanged (Refused refusal) connection ≡ also_decided
-        by_late_fault refusal e =
-            let (some, is) = some_by (eqb (cond input.margin_too_large 9 also) 0) (cond input.margin_too_large 9 also) refusal e in
-            subst (λ (n : ℕ). unchanged (Refused n) connection ≡ also_decided) is (rw some at goes)
+        pub by_late_fault : (refusal : ℕ) → cond input.margin_too_large (Some 9) also ≡ Some refusal → unchanged (Refused refusal) connection ≡ also_decided
+        by_late_fault refusal e = rw e at goes
 
-        pub by_handling : refusal_numbered (cond input.margin_too_large 9 also) ≡ None → handled_to (next_state connection code input) connection code input ≡ also_decided
-        by_handling e = rw (none_by (eqb (cond input.margin_too_large 9 also) 0) (cond input.margin_too_large 9 also) e) at goes
+        pub by_handling : cond input.margin_too_large (Some 9) also ≡ None → handled_to (next_state connection code input) connection code input ≡ also_decided
+        by_handling e = rw e at goes

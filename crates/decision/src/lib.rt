@@ -1,12 +1,11 @@
 // What becomes of an event: refused, ignored or handled.
 #![tactic(auto)]
 
-ghost use Rattle.std.specs.Prelude.{◌≡◌, cond};
+ghost use Rattle.std.specs.Prelude.{◌≡◌, Some, cond};
 ghost use Rattle.decision.specs.Also.{decided_also};
 ghost use Rattle.decision.specs.Lent.{lent, unmoved_answer};
 ghost use Rattle.flat.specs.Flat.{record_in, slots_of};
 ghost use Rattle.flat.specs.Written.{Written};
-ghost use Rattle.guards.specs.Numbered.{refusal_numbered};
 ghost use Rattle.protocol.specs.Actions.{no_actions};
 
 use dispatch::move_on;
@@ -20,11 +19,11 @@ use record::Connection;
 use table::{next_state, states};
 
 // Decides an event for a record and writes the actions and, where the event is handled, the record after it. `also` is a refusal
-// of the host's interface, 0 for none.
+// of the host's interface.
 pub fn decide(
     numbers: &mut [u32; 12],
     slots: &mut [u32; 16],
-    also: u32,
+    also: Option<u32>,
     connection: Connection,
     code: u32,
     input: Input,
@@ -59,13 +58,13 @@ pub fn decide(
 }
 
 // Refusal 9 or, without its fault, that of the host's interface.
-fn late_refusal(margin_too_large: bool, also: u32) -> Option<u32>
-    ensures { result ≡ refusal_numbered (cond margin_too_large 9 also) }
+fn late_refusal(margin_too_large: bool, also: Option<u32>) -> Option<u32>
+    ensures { result ≡ cond margin_too_large (Some 9) also }
 {
     if margin_too_large {
         return Some(refusals::MARGIN_TOO_LARGE);
     }
-    (also != refusals::NONE).then_some(also)
+    also
 }
 
 // Refused or, without a refusal, ignored: no actions, and the record is not written.

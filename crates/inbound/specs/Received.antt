@@ -1,5 +1,5 @@
 -- Request #101, "Joined to the step": what the host gets for a message that arrived.
-use Rattle.std.specs.Prelude.{ℕ, cond, List, [], ltb, length, take}
+use Rattle.std.specs.Prelude.{ℕ, Option, cond, List, [], ltb, length, take}
 use Rattle.connection.specs.Also.{result_also}
 use Rattle.event.specs.Call.{Call, call_of}
 use Rattle.protocol.specs.Step.{Result, result_with, unchanged}
@@ -12,16 +12,16 @@ use Rattle.messages.specs.Numbers.{part_of}
 use Rattle.arrival.specs.Arrival.{also_of, event_of}
 use Rattle.token.specs.declared.Token.{Token}
 
--- What the host gives with the bytes: what it says of the token, what its interface refuses of the token or 0 (`result_also`),
+-- What the host gives with the bytes: what it says of the token, what its interface refuses of the token, if anything (`result_also`),
 -- and its own lists.
 pub record Given : Type 0 where
   pub token : Token
-  pub token_refusal : ℕ
+  pub token_refusal : Option ℕ
   pub our_verifiers : List ℕ
   pub our_provers : List ℕ
 
 -- The same by its parts in their order.
-abbrev pub given : Token → ℕ → (our_verifiers our_provers : List ℕ) → Given
+abbrev pub given : Token → Option ℕ → (our_verifiers our_provers : List ℕ) → Given
 given token token_refusal our_verifiers our_provers =
     record { token = token; token_refusal = token_refusal; our_verifiers = our_verifiers; our_provers = our_provers }
 

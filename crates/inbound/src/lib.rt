@@ -27,12 +27,12 @@ fn first(list: &[u32], count: usize) -> &[u32]
 }
 
 // Reads a message and steps with the event that it is. Bytes that are refused change nothing. `token_refusal` is a refusal
-// of the host's interface, 0 for none: it is given for a message with a token where the step refuses nothing.
+// of the host's interface: it is given for a message with a token where the step refuses nothing.
 pub fn receive(
     numbers: &mut [u32; 12],
     bytes: &[u8],
     token: Token,
-    token_refusal: u32,
+    token_refusal: Option<u32>,
     our_verifiers: &[u32],
     our_provers: &[u32],
     cache: &mut [u8],

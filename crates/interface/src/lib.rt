@@ -11,7 +11,6 @@ pub mod choice;
 pub mod time;
 
 use event::Event;
-use protocol::refusals;
 use table::codes;
 use token::Token;
 
@@ -70,15 +69,11 @@ fn wrong_verdict(flat: FlatEvent) -> bool
     ((flat.code == codes::SC_HELLO) | (flat.code == codes::SC_DAT)) & (flat.verdict > YES)
 }
 
-// The interface's own refusal of an event, 0 for none.
-pub fn refused_as(flat: FlatEvent) -> u32
+// The interface's own refusal of an event.
+pub fn refused_as(flat: FlatEvent) -> Option<u32>
     ensures { result ≡ refused_as flat }
 {
-    if wrong_verdict(flat) {
-        WRONG_VERDICT
-    } else {
-        refusals::NONE
-    }
+    wrong_verdict(flat).then_some(WRONG_VERDICT)
 }
 
 // An event with a bit, and with what the host says of the token. A message carries no tag and names no timer.

@@ -54,7 +54,7 @@ pub fn margin_too_large(margin: u32) -> bool
 
 // Expiry minus now minus margin, worked out exactly, then clamped to a day either way. Expiry minus now is compared with
 // both bounds raised by the margin, which is taken last; comparing `now` first with expiry less a bound keeps the
-// subtraction within 64 bits.
+// subtraction within 64 bits. Document 01 asks that both are compared without wrap, so the subtraction does not saturate.
 pub fn seconds_left(expiry: i64, now: i64, margin: u32) -> Result<i64, MarginTooLarge>
     ensures { answer_of result ≡ time_left expiry now margin }
 {

@@ -1,6 +1,7 @@
 -- `capi::menhotrac_step` meets its contract.
 use mathlib.Core.Path.{◌≡◌, ap, ◌∙◌}
 use Prim.Native.Nat.{ℕ}
+use Rattle.std.specs.Prelude.{Option}
 use Rattle.connection.specs.Also.{result_also}
 use Rattle.flat.specs.Flat.{record_in, slots_of}
 use Rattle.event.specs.Call.{call_of}
@@ -16,7 +17,7 @@ use Rattle.capi.proofs.menhotrac_step.Goals as goal
 
 module _ (s : After-step_flat-answer) where
   -- The result, by the interface's refusal and the event.
-  result : ℕ → Event → Result
+  result : Option ℕ → Event → Result
   result also event = result_also also (record_in s.args.connection.now) (call_of event s.args.payload.now s.args.our_verifiers.now s.args.peer_provers.now s.args.peer_verifiers.now s.args.our_provers.now) s.args.cache.now
 
   -- That of the event as the host handed it over.

@@ -7,6 +7,7 @@ use Rattle.event.specs.Call.{call_of}
 use Rattle.event.specs.declared.Event.{Event}
 use Rattle.flat.specs.Flat.{record_in, slots_of}
 use Rattle.protocol.specs.Step.{Result}
+use Rattle.std.specs.Prelude.{Option}
 use Rattle.connection.specs.Also.{result_also}
 use Rattle.messages.specs.Outer.{reading_of}
 use Rattle.wire.specs.Lists.{entries}
@@ -56,7 +57,7 @@ returns c =
     let e = arrived_read bytes _ _ m r.ensures.says none (record_in c.args.numbers.now) g c.args.cache.now in
     let p : first_entries m.provers r.new.provers ≡ entries m.provers r.new.provers = first_entries_lem m.provers _ (long_provers at) r.ensures.counts.0 in
     let v : first_entries m.verifiers r.new.verifiers ≡ entries m.verifiers r.new.verifiers = first_entries_lem m.verifiers _ (long_verifiers at) r.ensures.counts.1 in
-    let call : ℕ → Event → (payload peer_provers peer_verifiers : List ℕ) → Result =
+    let call : Option ℕ → Event → (payload peer_provers peer_verifiers : List ℕ) → Result =
     λ also event payload peer_provers peer_verifiers. result_also also (record_in c.args.numbers.now) (call_of event payload c.args.our_verifiers.now peer_provers peer_verifiers c.args.our_provers.now) c.args.cache.now
     in
     let same : call c.also_of.result c.event_of.result c.part-payload.result.now c.first.result.now c.first-2.result.now ≡ received (record_in c.args.numbers.now) bytes g c.args.cache.now =
