@@ -39,13 +39,7 @@ fn run<W: Write>(out: &mut W) -> io::Result<()> {
     // Document 01 gives the boot program a cache of 4,096 zero bytes.
     let mut cache = [0u8; 4096];
     for (code, tag, payload) in CALLS {
-        let outcome = step(
-            connection,
-            event(code, tag),
-            payload,
-            LISTS,
-            &mut cache,
-        );
+        let outcome = step(connection, event(code, tag), payload, LISTS, &mut cache);
         connection = outcome.connection;
         writeln!(out, "{} {}", connection.state, connection.handled)?;
     }

@@ -38,15 +38,7 @@ pub fn step(
 {
     let mut numbers = numbers_of(connection);
     let mut slots = slots_of(NO_ACTIONS);
-    let answer = step_flat(
-        &mut numbers,
-        None,
-        event,
-        payload,
-        lists,
-        cache,
-        &mut slots,
-    );
+    let answer = step_flat(&mut numbers, None, event, payload, lists, cache, &mut slots);
     Outcome {
         answer,
         connection: record_in(&numbers),
