@@ -5,7 +5,7 @@ use scan::Groups;
 // The most entries of a list that are understood.
 const ENTRIES: usize = 32;
 
-#[derive(Drop)]
+#[derive(Debug, PartialEq, Eq, Drop)]
 pub(crate) struct Lists {
     pub(crate) our_verifiers: ArrayVec<u32, ENTRIES>,
     pub(crate) peer_provers: ArrayVec<u32, ENTRIES>,

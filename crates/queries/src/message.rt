@@ -6,7 +6,7 @@ use std::io;
 use std::io::Write;
 use stdio::Numbers;
 
-#[derive(Drop)]
+#[derive(Debug, PartialEq, Eq, Drop)]
 pub struct Row {
     message: ArrayVec<u8, BYTES>,
 }

@@ -11,7 +11,7 @@ const SEMICOLON: u8 = b';';
 pub struct Group<'a>(&'a [u8]);
 
 // The groups in what is left of a row; of `None`, there are none.
-#[derive(Drop)]
+#[derive(Debug, Drop)]
 pub struct Groups<'a>(Option<&'a [u8]>);
 
 impl<'a> Iterator for Groups<'a> {
@@ -39,7 +39,7 @@ impl<'a> Groups<'a> {
 }
 
 // The items in what is left of a group, each of which has a byte at least.
-#[derive(Drop)]
+#[derive(Debug, Drop)]
 pub struct Items<'a>(&'a [u8]);
 
 impl<'a> Iterator for Items<'a> {
