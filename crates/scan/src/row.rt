@@ -6,13 +6,26 @@ use crate::{BLANK, split_word};
 
 const SEMICOLON: u8 = b';';
 
+// The groups in what is left of a row, which is `None` after the last group.
+#[derive(Debug, Drop)]
+pub struct Groups<'a>(Option<&'a [u8]>);
+
 // What stands between two `;` of a row.
 #[derive(Clone, Copy, Debug, PartialEq, Eq)]
 pub struct Group<'a>(&'a [u8]);
 
-// The groups in what is left of a row; of `None`, there are none.
+// The items in what is left of a group, each of which has a byte at least.
 #[derive(Debug, Drop)]
-pub struct Groups<'a>(Option<&'a [u8]>);
+pub struct Items<'a>(&'a [u8]);
+
+impl<'a> Groups<'a> {
+    // The groups of what follows a word: one more than there are `;`.
+    pub fn new(row: &'a [u8]) -> Groups<'a>
+        ensures { result.0 ≡ Some row.entry }
+    {
+        Groups(Some(row))
+    }
+}
 
 impl<'a> Iterator for Groups<'a> {
     type Item = Group<'a>;
@@ -29,18 +42,13 @@ impl<'a> Iterator for Groups<'a> {
     }
 }
 
-impl<'a> Groups<'a> {
-    // The groups of what follows a word: one more than there are `;`.
-    pub fn new(row: &'a [u8]) -> Groups<'a>
-        ensures { result.0 ≡ Some row.entry }
+impl<'a> Group<'a> {
+    pub fn items(self) -> Items<'a>
+        ensures { result.0 ≡ self.entry.0 }
     {
-        Groups(Some(row))
+        Items(self.0)
     }
 }
-
-// The items in what is left of a group, each of which has a byte at least.
-#[derive(Debug, Drop)]
-pub struct Items<'a>(&'a [u8]);
 
 impl<'a> Iterator for Items<'a> {
     type Item = &'a [u8];
@@ -52,13 +60,5 @@ impl<'a> Iterator for Items<'a> {
         let (item, rest) = split_word(&self.0[from..]);
         self.0 = rest;
         Some(item)
-    }
-}
-
-impl<'a> Group<'a> {
-    pub fn items(self) -> Items<'a>
-        ensures { result.0 ≡ self.entry.0 }
-    {
-        Items(self.0)
     }
 }
