@@ -10,7 +10,7 @@ use std::io;
 use std::io::Write;
 use stdio::{Numbers, Runs};
 
-// Record and event are the numbers of the C interface.
+// Record and event are the numbers of the C interface, whose event derives neither `Debug` nor `PartialEq`.
 #[derive(Drop)]
 pub struct Row {
     record: [u32; 12],
@@ -20,7 +20,7 @@ pub struct Row {
     lists: Lists,
 }
 
-// The event that a group is.
+// The event that a group is. Its items stand in the order of the fields.
 fn event_in(group: Group<'_>) -> Option<FlatEvent> {
     let mut items = group.items();
     let event = FlatEvent {
