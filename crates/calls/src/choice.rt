@@ -1,25 +1,24 @@
 // Rows `suites`: the suite choice, asked alone.
 use crate::lists::Lists;
 use capi::menhotrac_choose_suites;
-use scan::groups;
+use scan::Groups;
 use std::io;
 use std::io::Write;
 use stdio::Numbers;
 
-#[derive(Drop)]
+#[derive(Debug, PartialEq, Eq, Drop)]
 pub struct Row {
     lists: Lists,
 }
 
 impl Row {
     // What follows the word; `None` where it is not understood.
-    pub fn read(row: &[u8]) -> Option<Row> {
-        if groups(row) != 4 {
-            return None;
-        }
-        Some(Row {
-            lists: Lists::read(row, 0)?,
-        })
+    pub fn read(text: &[u8]) -> Option<Row> {
+        let mut groups = Groups::new(text);
+        let row = Row {
+            lists: Lists::read(&mut groups)?,
+        };
+        groups.next().is_none().then_some(row)
     }
 
     pub fn answer<W: Write>(&self, out: &mut W) -> io::Result<()> {

@@ -5,12 +5,12 @@ use capi::menhotrac_step;
 use connection::part;
 use flat::actions_in;
 use interface::FlatEvent;
-use scan::{BYTES, bytes, groups, item, number, numbers};
+use scan::{BYTES, Group, Groups};
 use std::io;
 use std::io::Write;
 use stdio::{Numbers, Runs};
 
-// Record and event are the numbers of the C interface.
+// Record and event are the numbers of the C interface, whose event derives neither `Debug` nor `PartialEq`.
 #[derive(Drop)]
 pub struct Row {
     record: [u32; 12],
@@ -20,36 +20,34 @@ pub struct Row {
     lists: Lists,
 }
 
-// The event that a group is.
-fn event_in(row: &[u8], group: usize) -> Option<FlatEvent> {
-    if item(row, group, 8).is_some() {
-        return None;
-    }
-    Some(FlatEvent {
-        code: number(row, group, 0)?,
-        tag: number(row, group, 1)?,
-        timer: number(row, group, 2)?,
-        bit: number(row, group, 3)?,
-        verdict: number(row, group, 4)?,
-        margin: number(row, group, 5)?,
-        expiry: number(row, group, 6)?,
-        now: number(row, group, 7)?,
-    })
+// The event that a group is. Its items stand in the order of the fields.
+fn event_in(group: Group<'_>) -> Option<FlatEvent> {
+    let mut items = group.items();
+    let event = FlatEvent {
+        code: items.number()?,
+        tag: items.number()?,
+        timer: items.number()?,
+        bit: items.number()?,
+        verdict: items.number()?,
+        margin: items.number()?,
+        expiry: items.number()?,
+        now: items.number()?,
+    };
+    items.next().is_none().then_some(event)
 }
 
 impl Row {
     // What follows the word; `None` where it is not understood.
-    pub fn read(row: &[u8]) -> Option<Row> {
-        if groups(row) != 8 {
-            return None;
-        }
-        Some(Row {
-            record: numbers(row, 0)?.into_inner().ok()?,
-            event: event_in(row, 1)?,
-            payload: bytes(row, 2)?,
-            cache: bytes(row, 3)?,
-            lists: Lists::read(row, 4)?,
-        })
+    pub fn read(text: &[u8]) -> Option<Row> {
+        let mut groups = Groups::new(text);
+        let row = Row {
+            record: groups.next()?.numbers()?.into_inner().ok()?,
+            event: event_in(groups.next()?)?,
+            payload: groups.next()?.bytes()?,
+            cache: groups.next()?.bytes()?,
+            lists: Lists::read(&mut groups)?,
+        };
+        groups.next().is_none().then_some(row)
     }
 
     // The step changes record and cache.

@@ -1,25 +1,24 @@
 // Rows `message`: the bytes of one message.
 use arrayvec::ArrayVec;
 use capi::menhotrac_read;
-use scan::{BYTES, bytes, groups};
+use scan::{BYTES, Groups};
 use std::io;
 use std::io::Write;
 use stdio::Numbers;
 
-#[derive(Drop)]
+#[derive(Debug, PartialEq, Eq, Drop)]
 pub struct Row {
     message: ArrayVec<u8, BYTES>,
 }
 
 impl Row {
     // What follows the word; `None` where it is not understood.
-    pub fn read(row: &[u8]) -> Option<Row> {
-        if groups(row) != 1 {
-            return None;
-        }
-        Some(Row {
-            message: bytes(row, 0)?,
-        })
+    pub fn read(text: &[u8]) -> Option<Row> {
+        let mut groups = Groups::new(text);
+        let row = Row {
+            message: groups.next()?.bytes()?,
+        };
+        groups.next().is_none().then_some(row)
     }
 
     pub fn answer<W: Write>(&self, out: &mut W) -> io::Result<()> {

@@ -1,10 +1,10 @@
 // Rows `seconds`: the time left of a token.
 use capi::menhotrac_seconds_left;
-use scan::{groups, item, number};
+use scan::Groups;
 use std::io;
 use std::io::Write;
 
-#[derive(Clone, Copy)]
+#[derive(Clone, Copy, Debug, PartialEq, Eq)]
 pub struct Row {
     expiry: i64,
     now: i64,
@@ -13,15 +13,16 @@ pub struct Row {
 
 impl Row {
     // What follows the word; `None` where it is not understood.
-    pub fn read(row: &[u8]) -> Option<Row> {
-        if groups(row) != 1 || item(row, 0, 3).is_some() {
-            return None;
-        }
-        Some(Row {
-            expiry: number(row, 0, 0)?,
-            now: number(row, 0, 1)?,
-            margin: number(row, 0, 2)?,
-        })
+    pub fn read(text: &[u8]) -> Option<Row> {
+        let mut groups = Groups::new(text);
+        let mut items = groups.next()?.items();
+        let row = Row {
+            expiry: items.number()?,
+            now: items.number()?,
+            margin: items.number()?,
+        };
+        let is_whole = items.next().is_none() && groups.next().is_none();
+        is_whole.then_some(row)
     }
 
     pub fn answer<W: Write>(&self, out: &mut W) -> io::Result<()> {

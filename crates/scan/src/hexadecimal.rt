@@ -2,7 +2,7 @@
 ghost use Rattle.std.specs.Prelude.{◌<◌, IfSome};
 
 use crate::decimal::parse;
-use crate::row::items_of;
+use crate::row::Group;
 use arrayvec::ArrayVec;
 
 // The most bytes of a group that are understood.
@@ -44,11 +44,13 @@ fn append_piece(bytes: &mut ArrayVec<u8, BYTES>, piece: &[u8]) -> Option<()> {
     Some(())
 }
 
-// The bytes of the pieces of a group, one after the other.
-pub fn bytes(row: &[u8], group: usize) -> Option<ArrayVec<u8, BYTES>> {
-    let mut bytes = ArrayVec::new();
-    for piece in items_of(row, group)? {
-        append_piece(&mut bytes, piece)?;
+impl Group<'_> {
+    // The bytes of the pieces, one after the other.
+    pub fn bytes(self) -> Option<ArrayVec<u8, BYTES>> {
+        let mut bytes = ArrayVec::new();
+        for piece in self.items() {
+            append_piece(&mut bytes, piece)?;
+        }
+        Some(bytes)
     }
-    Some(bytes)
 }

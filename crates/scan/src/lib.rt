@@ -9,9 +9,8 @@ mod decimal;
 mod hexadecimal;
 mod row;
 
-pub use decimal::{number, numbers};
-pub use hexadecimal::{BYTES, bytes};
-pub use row::{groups, item};
+pub use hexadecimal::BYTES;
+pub use row::{Group, Groups, Items};
 
 const BLANK: u8 = b' ';
 

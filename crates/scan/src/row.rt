@@ -1,14 +1,54 @@
 // The groups of a row, and their items.
-ghost use Rattle.std.specs.Prelude.{length};
+ghost use Rattle.std.specs.Prelude.{◌≡◌, ◌+◌, Some, length, option_map, unwrap_or};
 ghost use Rattle.std.specs.Iterator.{at_most};
 
 use crate::{BLANK, split_word};
 
 const SEMICOLON: u8 = b';';
 
+// The groups in what is left of a row, which is `None` after the last group.
+#[derive(Debug, Drop)]
+pub struct Groups<'a>(Option<&'a [u8]>);
+
+// What stands between two `;` of a row.
+#[derive(Clone, Copy, Debug, PartialEq, Eq)]
+pub struct Group<'a>(&'a [u8]);
+
 // The items in what is left of a group, each of which has a byte at least.
-#[derive(Drop)]
-pub(crate) struct Items<'a>(&'a [u8]);
+#[derive(Debug, Drop)]
+pub struct Items<'a>(&'a [u8]);
+
+impl<'a> Groups<'a> {
+    // The groups of what follows a word: one more than there are `;`.
+    pub fn new(row: &'a [u8]) -> Groups<'a>
+        ensures { result.0 ≡ Some row.entry }
+    {
+        Groups(Some(row))
+    }
+}
+
+impl<'a> Iterator for Groups<'a> {
+    type Item = Group<'a>;
+
+    ghost remaining = { λ groups. at_most (unwrap_or (option_map (λ row. length row.now + 1) groups.0) 0) };
+
+    fn next(&mut self) -> Option<Group<'a>> {
+        let row = self.0.take()?;
+        let Some(end) = row.iter().position(|byte| *byte == SEMICOLON) else {
+            return Some(Group(row));
+        };
+        self.0 = Some(&row[end + 1..]);
+        Some(Group(&row[..end]))
+    }
+}
+
+impl<'a> Group<'a> {
+    pub fn items(self) -> Items<'a>
+        ensures { result.0 ≡ self.entry.0 }
+    {
+        Items(self.0)
+    }
+}
 
 impl<'a> Iterator for Items<'a> {
     type Item = &'a [u8];
@@ -21,18 +61,4 @@ impl<'a> Iterator for Items<'a> {
         self.0 = rest;
         Some(item)
     }
-}
-
-// How many groups there are: one more than there are `;`.
-pub fn groups(row: &[u8]) -> usize {
-    row.split(|byte| *byte == SEMICOLON).count()
-}
-
-pub(crate) fn items_of(row: &[u8], group: usize) -> Option<Items<'_>> {
-    row.split(|byte| *byte == SEMICOLON).nth(group).map(Items)
-}
-
-// An item of a group; `None` where there are fewer.
-pub fn item(row: &[u8], group: usize, index: usize) -> Option<&[u8]> {
-    items_of(row, group)?.nth(index)
 }

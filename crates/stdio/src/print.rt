@@ -2,7 +2,7 @@
 use std::fmt;
 
 // Each number as an item.
-#[derive(Clone, Copy)]
+#[derive(Clone, Copy, Debug, PartialEq, Eq)]
 pub struct Numbers<'a>(pub &'a [u32]);
 
 impl fmt::Display for Numbers<'_> {
@@ -15,7 +15,7 @@ impl fmt::Display for Numbers<'_> {
 }
 
 // Each longest run of equal bytes as COUNT*BYTE, the byte in hexadecimal.
-#[derive(Clone, Copy)]
+#[derive(Clone, Copy, Debug, PartialEq, Eq)]
 pub struct Runs<'a>(pub &'a [u8]);
 
 impl fmt::Display for Runs<'_> {
