@@ -7,10 +7,12 @@ ghost use Rattle.fields.specs.Message.{reading_at};
 
 mod hello;
 mod keys;
+mod number;
 mod plain;
 pub mod schema;
 
 use crate::hello::hello_in;
+use crate::number::PlainNumber;
 use crate::plain::plain_in;
 use fault::Refusal;
 pub use wire::Span;
@@ -51,5 +53,5 @@ pub fn read_at(
     if message == schema::HELLO {
         return hello_in(bytes, part, provers, verifiers);
     }
-    plain_in(message, bytes, part)
+    plain_in(PlainNumber { number: message }, bytes, part)
 }

@@ -7,7 +7,7 @@ pub returns-in_err-key : goal.returns-in_err-key
 returns-in_err-key c =
     let a = c.args in
     rw (passed_on _ c.from_residual.ensures.1)
-    (λ f m provers verifiers. key_faulty a.message a.bytes.now a.place f provers verifiers _ (sym c.in_err-key.ensures))
+    (λ f m provers verifiers. key_faulty a.message.number a.bytes.now a.place f provers verifiers _ (sym c.in_err-key.ensures))
 
 pub returns-in_err-field : goal.returns-in_err-field
 returns-in_err-field c = rw (passed_on _ c.from_residual-in_err-field.ensures.1) (c.in_err-field.ensures c.args.has_bit c.args.place (sym c.in_ok-key.ensures))
