@@ -6,7 +6,7 @@ use crate::keys::misfit;
 use crate::number::PlainNumber;
 use crate::{Contents, Span, keys, schema};
 use fault::Refusal;
-use wire::{Varint, bit, block_at, number};
+use wire::{Place, Varint};
 
 // What one field holds.
 #[derive(Clone, Copy, Debug, PartialEq, Eq)]
@@ -28,18 +28,17 @@ const NO_PART: Span = Span { place: 0, size: 0 };
 fn part_field(
     message: PlainNumber,
     key: u32,
-    bytes: &[u8],
-    next: usize,
+    content: Place<'_>,
     has_bytes: bool,
 ) -> Result<Field, Refusal>
     requires { message.number < 8 }
-    ensures { (has_bit : Bool) → PlainKey message.number key bytes.now next (plain_marks has_bytes has_bit) result }
+    ensures { (has_bit : Bool) → PlainKey message.number key content.entry.bytes.now content.entry.at (plain_marks has_bytes has_bit) result }
 {
     let has_part = (message.number == schema::DAT)
         | (message.number == schema::RA_PROVER)
         | (message.number == schema::RA_VERIFIER);
     if has_part & (key == keys::BYTES) & !has_bytes {
-        let part = block_at(bytes, next)?;
+        let part = content.block()?;
         return Ok(Field::Bytes(part));
     }
     let field = key / schema::WIRE_TYPES;
@@ -48,19 +47,18 @@ fn part_field(
 
 fn data_field(
     key: u32,
-    bytes: &[u8],
-    next: usize,
+    content: Place<'_>,
     has_bytes: bool,
     has_bit: bool,
 ) -> Result<Field, Refusal>
-    ensures { PlainKey 8 key bytes.now next (plain_marks has_bytes has_bit) result }
+    ensures { PlainKey 8 key content.entry.bytes.now content.entry.at (plain_marks has_bytes has_bit) result }
 {
     if (key == keys::BYTES) & !has_bytes {
-        let part = block_at(bytes, next)?;
+        let part = content.block()?;
         return Ok(Field::Bytes(part));
     }
     if (key == keys::DATA_BIT) & !has_bit {
-        let bit = bit(bytes, next)?;
+        let bit = content.bit()?;
         return Ok(Field::Bit(bit));
     }
     let field = key / schema::WIRE_TYPES;
@@ -70,19 +68,13 @@ fn data_field(
 }
 
 // A field of a message above DATA: ACK has a bit, and no other number is a message's.
-fn ack_field(
-    message: u32,
-    key: u32,
-    bytes: &[u8],
-    next: usize,
-    has_bit: bool,
-) -> Result<Field, Refusal>
+fn ack_field(message: u32, key: u32, content: Place<'_>, has_bit: bool) -> Result<Field, Refusal>
     requires { 9 ≤ message }
-    ensures { (has_bytes : Bool) → PlainKey message key bytes.now next (plain_marks has_bytes has_bit) result }
+    ensures { (has_bytes : Bool) → PlainKey message key content.entry.bytes.now content.entry.at (plain_marks has_bytes has_bit) result }
 {
     let is_ack = message == schema::ACK;
     if is_ack & (key == keys::ACK_BIT) & !has_bit {
-        let bit = bit(bytes, next)?;
+        let bit = content.bit()?;
         return Ok(Field::Bit(bit));
     }
     let field = key / schema::WIRE_TYPES;
@@ -93,23 +85,26 @@ fn ack_field(
 // is tested twice in every turn of the loop.
 fn next_field(
     message: PlainNumber,
-    bytes: &[u8],
-    place: usize,
+    place: Place<'_>,
     has_bytes: bool,
     has_bit: bool,
 ) -> Result<Field, Refusal>
-    ensures { PlainStep message.number bytes.now place (plain_marks has_bytes has_bit) result }
+    ensures { PlainStep message.number place.entry.bytes.now place.entry.at (plain_marks has_bytes has_bit) result }
 {
-    let key = number(bytes, place)?;
+    let key = place.number()?;
+    let content = Place {
+        at: key.next,
+        ..place
+    };
     if message.number < schema::DATA {
-        let field = part_field(message, key.value, bytes, key.next, has_bytes)?;
+        let field = part_field(message, key.value, content, has_bytes)?;
         return Ok(field);
     }
     if message.number == schema::DATA {
-        let field = data_field(key.value, bytes, key.next, has_bytes, has_bit)?;
+        let field = data_field(key.value, content, has_bytes, has_bit)?;
         return Ok(field);
     }
-    let field = ack_field(message.number, key.value, bytes, key.next, has_bit)?;
+    let field = ack_field(message.number, key.value, content, has_bit)?;
     Ok(field)
 }
 
@@ -122,7 +117,7 @@ fn read_plain(message: PlainNumber, bytes: &[u8], start: usize) -> Result<Plain,
     let mut bit = None;
     let mut at = start;
     while at < bytes.len() {
-        let field = next_field(message, bytes, at, part.is_some(), bit.is_some())?;
+        let field = next_field(message, Place { bytes, at }, part.is_some(), bit.is_some())?;
         match field {
             Field::Bytes(span) => {
                 part = Some(span);
