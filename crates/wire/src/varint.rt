@@ -10,8 +10,6 @@ use fault::Refusal;
 // The lowest byte that announces another.
 const MORE: u64 = 128;
 
-const LARGEST: u64 = 4294967295;
-
 const LARGEST_BIT: u32 = 1;
 
 // So many bytes say less than 2^63; one more may not fit 64 bits.
@@ -42,13 +40,10 @@ enum Said {
 fn fitting(number: u64, next: usize) -> Result<Varint, Refusal>
     ensures { number_of result ≡ cond (ltb 4294967295 number) (fault 24) (value number next) }
 {
-    if number > LARGEST {
-        return Err(Refusal::NumberTooLarge);
+    match u32::try_from(number) {
+        Ok(value) => Ok(Varint { value, next }),
+        Err(_) => Err(Refusal::NumberTooLarge),
     }
-    Ok(Varint {
-        value: number as u32,
-        next,
-    })
 }
 
 // What the first `most` bytes say.
