@@ -6,7 +6,7 @@ ghost use Rattle.fields.specs.Steps.{HelloCounts, HelloStep, Reads, fields_of, h
 use crate::keys::misfit;
 use crate::{Contents, Held, Span, keys, schema};
 use fault::Refusal;
-use wire::{Packed, block_at, number, packed_at};
+use wire::{Packed, Place};
 
 // What one field holds.
 #[derive(Clone, Copy, Debug, PartialEq, Eq)]
@@ -34,28 +34,31 @@ const NO_TOKEN: Span = Span { place: 0, size: 0 };
 
 // One field: its key, and then what the key announces.
 fn next_field(
-    bytes: &[u8],
-    place: usize,
+    place: Place<'_>,
     found: Found,
     provers: &mut [u32; 16],
     verifiers: &mut [u32; 16],
 ) -> Result<Field, Refusal>
-    ensures { HelloStep bytes.now place found provers.old verifiers.old result provers.new verifiers.new }
+    ensures { HelloStep place.entry.bytes.now place.entry.at found provers.old verifiers.old result provers.new verifiers.new }
 {
-    let key = number(bytes, place)?;
+    let key = place.number()?;
+    let content = Place {
+        at: key.next,
+        ..place
+    };
     let has_token = found.token.is_some();
     let has_provers = found.provers.is_some();
     let has_verifiers = found.verifiers.is_some();
     if (key.value == keys::BYTES) & !has_token {
-        let token = block_at(bytes, key.next)?;
+        let token = content.block()?;
         return Ok(Field::Token(token));
     }
     if (key.value == keys::PROVERS) & !has_provers {
-        let list = packed_at(bytes, key.next, provers)?;
+        let list = content.packed(provers)?;
         return Ok(Field::Provers(list));
     }
     if (key.value == keys::VERIFIERS) & !has_verifiers {
-        let list = packed_at(bytes, key.next, verifiers)?;
+        let list = content.packed(verifiers)?;
         return Ok(Field::Verifiers(list));
     }
     let field = key.value / schema::WIRE_TYPES;
@@ -79,7 +82,7 @@ fn read_hello(
     let mut found = NOTHING_FOUND;
     let mut at = start;
     while at < bytes.len() {
-        let field = next_field(bytes, at, found, provers, verifiers)?;
+        let field = next_field(Place { bytes, at }, found, provers, verifiers)?;
         match field {
             Field::Token(token) => {
                 found.token = Some(token);

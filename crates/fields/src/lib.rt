@@ -7,14 +7,16 @@ ghost use Rattle.fields.specs.Message.{reading_at};
 
 mod hello;
 mod keys;
+mod number;
 mod plain;
 pub mod schema;
 
 use crate::hello::hello_in;
+use crate::number::PlainNumber;
 use crate::plain::plain_in;
 use fault::Refusal;
+use wire::Place;
 pub use wire::Span;
-use wire::block_at;
 
 // What a HELLO holds: where its token lies, and how many suites each list has.
 #[derive(Clone, Copy, Debug, PartialEq, Eq)]
@@ -37,19 +39,18 @@ pub enum Contents {
 // entries. The number is no enum, since the promise is for every number.
 pub fn read_at(
     message: u32,
-    bytes: &[u8],
-    place: usize,
+    place: Place<'_>,
     provers: &mut [u32; 16],
     verifiers: &mut [u32; 16],
 ) -> Result<Contents, Refusal>
-    ensures reads { contents_in result provers.new verifiers.new ≡ reading_at message bytes.now place }
-    ensures provers_left { provers.new ≡ provers_after (reading_at message bytes.now place) provers.old }
-    ensures verifiers_left { verifiers.new ≡ verifiers_after (reading_at message bytes.now place) verifiers.old }
+    ensures reads { contents_in result provers.new verifiers.new ≡ reading_at message place.entry.bytes.now place.entry.at }
+    ensures provers_left { provers.new ≡ provers_after (reading_at message place.entry.bytes.now place.entry.at) provers.old }
+    ensures verifiers_left { verifiers.new ≡ verifiers_after (reading_at message place.entry.bytes.now place.entry.at) verifiers.old }
     ensures fits { Fits message result }
 {
-    let part = block_at(bytes, place)?;
+    let part = place.block()?;
     if message == schema::HELLO {
-        return hello_in(bytes, part, provers, verifiers);
+        return hello_in(place.bytes, part, provers, verifiers);
     }
-    plain_in(message, bytes, part)
+    plain_in(PlainNumber { number: message }, place.bytes, part)
 }

@@ -3,9 +3,10 @@ ghost use Rattle.std.specs.Prelude.{◌≡◌, Bool, ◌+◌, ◌<◌, ◌≤◌
 ghost use Rattle.fields.specs.Steps.{PlainKey, PlainStep, ReadsPlain, fields_of, inner_of, plain_in, plain_marks};
 
 use crate::keys::misfit;
+use crate::number::PlainNumber;
 use crate::{Contents, Span, keys, schema};
 use fault::Refusal;
-use wire::{Varint, bit, block_at, number};
+use wire::{Place, Varint};
 
 // What one field holds.
 #[derive(Clone, Copy, Debug, PartialEq, Eq)]
@@ -25,20 +26,19 @@ const NO_PART: Span = Span { place: 0, size: 0 };
 
 // A field of a message below DATA: three of these have bytes, the others no field.
 fn part_field(
-    message: u32,
+    message: PlainNumber,
     key: u32,
-    bytes: &[u8],
-    next: usize,
+    content: Place<'_>,
     has_bytes: bool,
 ) -> Result<Field, Refusal>
-    requires { (message ≡ 1 → ⊥) × (message < 8) }
-    ensures { (has_bit : Bool) → PlainKey message key bytes.now next (plain_marks has_bytes has_bit) result }
+    requires { message.number < 8 }
+    ensures { (has_bit : Bool) → PlainKey message.number key content.entry.bytes.now content.entry.at (plain_marks has_bytes has_bit) result }
 {
-    let has_part = (message == schema::DAT)
-        | (message == schema::RA_PROVER)
-        | (message == schema::RA_VERIFIER);
+    let has_part = (message.number == schema::DAT)
+        | (message.number == schema::RA_PROVER)
+        | (message.number == schema::RA_VERIFIER);
     if has_part & (key == keys::BYTES) & !has_bytes {
-        let part = block_at(bytes, next)?;
+        let part = content.block()?;
         return Ok(Field::Bytes(part));
     }
     let field = key / schema::WIRE_TYPES;
@@ -47,19 +47,18 @@ fn part_field(
 
 fn data_field(
     key: u32,
-    bytes: &[u8],
-    next: usize,
+    content: Place<'_>,
     has_bytes: bool,
     has_bit: bool,
 ) -> Result<Field, Refusal>
-    ensures { PlainKey 8 key bytes.now next (plain_marks has_bytes has_bit) result }
+    ensures { PlainKey 8 key content.entry.bytes.now content.entry.at (plain_marks has_bytes has_bit) result }
 {
     if (key == keys::BYTES) & !has_bytes {
-        let part = block_at(bytes, next)?;
+        let part = content.block()?;
         return Ok(Field::Bytes(part));
     }
     if (key == keys::DATA_BIT) & !has_bit {
-        let bit = bit(bytes, next)?;
+        let bit = content.bit()?;
         return Ok(Field::Bit(bit));
     }
     let field = key / schema::WIRE_TYPES;
@@ -69,19 +68,13 @@ fn data_field(
 }
 
 // A field of a message above DATA: ACK has a bit, and no other number is a message's.
-fn ack_field(
-    message: u32,
-    key: u32,
-    bytes: &[u8],
-    next: usize,
-    has_bit: bool,
-) -> Result<Field, Refusal>
+fn ack_field(message: u32, key: u32, content: Place<'_>, has_bit: bool) -> Result<Field, Refusal>
     requires { 9 ≤ message }
-    ensures { (has_bytes : Bool) → PlainKey message key bytes.now next (plain_marks has_bytes has_bit) result }
+    ensures { (has_bytes : Bool) → PlainKey message key content.entry.bytes.now content.entry.at (plain_marks has_bytes has_bit) result }
 {
     let is_ack = message == schema::ACK;
     if is_ack & (key == keys::ACK_BIT) & !has_bit {
-        let bit = bit(bytes, next)?;
+        let bit = content.bit()?;
         return Ok(Field::Bit(bit));
     }
     let field = key / schema::WIRE_TYPES;
@@ -91,39 +84,40 @@ fn ack_field(
 // One field: its key, and then what the key announces. Each answer is opened by `?` and made anew: passed on whole, its case
 // is tested twice in every turn of the loop.
 fn next_field(
-    message: u32,
-    bytes: &[u8],
-    place: usize,
+    message: PlainNumber,
+    place: Place<'_>,
     has_bytes: bool,
     has_bit: bool,
 ) -> Result<Field, Refusal>
-    requires { message ≡ 1 → ⊥ }
-    ensures { PlainStep message bytes.now place (plain_marks has_bytes has_bit) result }
+    ensures { PlainStep message.number place.entry.bytes.now place.entry.at (plain_marks has_bytes has_bit) result }
 {
-    let key = number(bytes, place)?;
-    if message < schema::DATA {
-        let field = part_field(message, key.value, bytes, key.next, has_bytes)?;
+    let key = place.number()?;
+    let content = Place {
+        at: key.next,
+        ..place
+    };
+    if message.number < schema::DATA {
+        let field = part_field(message, key.value, content, has_bytes)?;
         return Ok(field);
     }
-    if message == schema::DATA {
-        let field = data_field(key.value, bytes, key.next, has_bytes, has_bit)?;
+    if message.number == schema::DATA {
+        let field = data_field(key.value, content, has_bytes, has_bit)?;
         return Ok(field);
     }
-    let field = ack_field(message, key.value, bytes, key.next, has_bit)?;
+    let field = ack_field(message.number, key.value, content, has_bit)?;
     Ok(field)
 }
 
 // All fields from `start` to the end of the bytes. Bytes and bit are kept apart: a struct of both would have padding, which
 // is copied in every turn.
-fn read_plain(message: u32, bytes: &[u8], start: usize) -> Result<Plain, Refusal>
-    requires { message ≡ 1 → ⊥ }
-    ensures { plain_in message result ≡ fields_of message bytes.now start }
+fn read_plain(message: PlainNumber, bytes: &[u8], start: usize) -> Result<Plain, Refusal>
+    ensures { plain_in message.number result ≡ fields_of message.number bytes.now start }
 {
     let mut part = None;
     let mut bit = None;
     let mut at = start;
     while at < bytes.len() {
-        let field = next_field(message, bytes, at, part.is_some(), bit.is_some())?;
+        let field = next_field(message, Place { bytes, at }, part.is_some(), bit.is_some())?;
         match field {
             Field::Bytes(span) => {
                 part = Some(span);
@@ -142,10 +136,9 @@ fn read_plain(message: u32, bytes: &[u8], start: usize) -> Result<Plain, Refusal
 }
 
 // A message without lists in lent bytes. Any byte after it is refused.
-pub(crate) fn plain_in(message: u32, bytes: &[u8], part: Span) -> Result<Contents, Refusal>
-    requires not_hello { message ≡ 1 → ⊥ }
-    requires within { part.place + part.size ≤ length bytes.now }
-    ensures { ReadsPlain message result (inner_of message bytes.now part.place part.size) }
+pub(crate) fn plain_in(message: PlainNumber, bytes: &[u8], part: Span) -> Result<Contents, Refusal>
+    requires { part.place + part.size ≤ length bytes.now }
+    ensures { ReadsPlain message.number result (inner_of message.number bytes.now part.place part.size) }
 {
     let end = part.place + part.size;
     let plain = read_plain(message, &bytes[..end], part.place)?;
@@ -153,7 +146,7 @@ pub(crate) fn plain_in(message: u32, bytes: &[u8], part: Span) -> Result<Content
         return Err(Refusal::UnexpectedField);
     }
     Ok(Contents::Plain {
-        number: message,
+        number: message.number,
         part: plain.part,
         bit: plain.bit,
     })

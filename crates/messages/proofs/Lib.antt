@@ -3,3 +3,4 @@ pub mod Answers
 pub mod Carried
 pub mod Laws
 pub mod Lengths
+mod Parts

@@ -68,14 +68,6 @@ pub fn read(
 pub fn part<'a>(bytes: &'a [u8], span: Span) -> &'a [u8]
     ensures { result.now ≡ part_of bytes.now span }
 {
-    let place = span.place;
-    let size = span.size;
-    if place > bytes.len() {
-        return &bytes[..0];
-    }
-    if size > bytes.len() - place {
-        return &bytes[..0];
-    }
-    let end = place + size;
-    &bytes[place..end]
+    let rest = bytes.get(span.place..).unwrap_or(&[]);
+    rest.get(..span.size).unwrap_or(&[])
 }

@@ -6,7 +6,7 @@ ghost use Rattle.messages.specs.Whole.{KnownContents, Opened};
 
 use fault::Refusal;
 use fields::{Contents, read_at, schema};
-use wire::number;
+use wire::Place;
 
 // The keys of the nine messages, of any wire type, begin with the first of these and end before the second.
 const FIRST_KEY: u32 = schema::HELLO * schema::WIRE_TYPES;
@@ -27,7 +27,7 @@ fn outer_field(bytes: &[u8]) -> Result<Outer, Refusal>
     if bytes.is_empty() {
         return Err(Refusal::UnexpectedField);
     }
-    let key = number(bytes, 0)?;
+    let key = Place { bytes, at: 0 }.number()?;
     if (key.value < FIRST_KEY) | (key.value >= PAST_KEYS) {
         return Err(Refusal::UnexpectedField);
     }
@@ -52,5 +52,13 @@ pub(crate) fn contents_of(
     ensures known { KnownContents result }
 {
     let outer = outer_field(bytes)?;
-    read_at(outer.message, bytes, outer.place, provers, verifiers)
+    read_at(
+        outer.message,
+        Place {
+            bytes,
+            at: outer.place,
+        },
+        provers,
+        verifiers,
+    )
 }

@@ -5,6 +5,13 @@ mod block;
 mod list;
 mod varint;
 
-pub use crate::block::{Span, block_at};
-pub use crate::list::{Packed, packed_at};
-pub use crate::varint::{Varint, bit, number};
+pub use crate::block::Span;
+pub use crate::list::Packed;
+pub use crate::varint::Varint;
+
+// A place of lent bytes. Its methods read what stands there, and give a refusal where it lies past the end.
+#[derive(Clone, Copy, Debug, PartialEq, Eq)]
+pub struct Place<'a> {
+    pub bytes: &'a [u8],
+    pub at: usize,
+}

@@ -4,8 +4,7 @@ ghost use Rattle.wire.specs.Bytes.{list_from};
 ghost use Rattle.wire.specs.Lists.{padded};
 ghost use Rattle.wire.specs.Parts.{Holds, Stored, packed_at, packed_of};
 
-use crate::block::block_at;
-use crate::varint::entry;
+use crate::Place;
 use fault::Refusal;
 
 const MAX_ENTRIES: usize = 16;
@@ -27,7 +26,7 @@ fn entries(bytes: &[u8], start: usize, suites: &mut [u32; 16]) -> Result<Packed,
     let mut count = 0;
     let mut at = start;
     while at < bytes.len() {
-        let suite = entry(bytes, at)?;
+        let suite = Place { bytes, at }.entry()?;
         if count == MAX_ENTRIES {
             return Err(Refusal::TooManySuites);
         }
@@ -41,17 +40,19 @@ fn entries(bytes: &[u8], start: usize, suites: &mut [u32; 16]) -> Result<Packed,
     })
 }
 
-// The packed list at a place, written to `suites` with zeros behind it. After a fault `suites` holds zeros.
-pub fn packed_at(bytes: &[u8], place: usize, suites: &mut [u32; 16]) -> Result<Packed, Refusal>
-    ensures suites_after { packed_of result suites.new ≡ packed_at bytes.now place }
-    ensures stored { Stored result suites.new }
-{
-    *suites = [0; 16];
-    let part = block_at(bytes, place)?;
-    let end = part.place + part.size;
-    let list = entries(&bytes[..end], part.place, suites);
-    if list.is_err() {
+impl Place<'_> {
+    // The packed list at the place, written to `suites` with zeros behind it. After a fault `suites` holds zeros.
+    pub fn packed(self, suites: &mut [u32; 16]) -> Result<Packed, Refusal>
+        ensures suites_after { packed_of result suites.new ≡ packed_at self.entry.bytes.now self.entry.at }
+        ensures stored { Stored result suites.new }
+    {
         *suites = [0; 16];
+        let part = self.block()?;
+        let end = part.place + part.size;
+        let list = entries(&self.bytes[..end], part.place, suites);
+        if list.is_err() {
+            *suites = [0; 16];
+        }
+        list
     }
-    list
 }

@@ -4,12 +4,11 @@ ghost use Rattle.wire.specs.Varint.{value, fault, said, number_from, number_at, 
 ghost use Rattle.wire.specs.Bytes.{SaidBy};
 ghost use Rattle.wire.specs.Parts.{number_of};
 
+use crate::Place;
 use fault::Refusal;
 
 // The lowest byte that announces another.
 const MORE: u64 = 128;
-
-const LARGEST: u64 = 4294967295;
 
 const LARGEST_BIT: u32 = 1;
 
@@ -41,13 +40,10 @@ enum Said {
 fn fitting(number: u64, next: usize) -> Result<Varint, Refusal>
     ensures { number_of result ≡ cond (ltb 4294967295 number) (fault 24) (value number next) }
 {
-    if number > LARGEST {
-        return Err(Refusal::NumberTooLarge);
+    match u32::try_from(number) {
+        Ok(value) => Ok(Varint { value, next }),
+        Err(_) => Err(Refusal::NumberTooLarge),
     }
-    Ok(Varint {
-        value: number as u32,
-        next,
-    })
 }
 
 // What the first `most` bytes say.
@@ -88,62 +84,66 @@ fn long_number(bytes: &[u8], place: usize) -> Result<Varint, Refusal>
     }
 }
 
-// The number at a place. Most keys and lengths are said by one byte or two, and these are read without a call.
-pub fn number(bytes: &[u8], place: usize) -> Result<Varint, Refusal>
-    ensures { number_of result ≡ number_at bytes.now place }
-{
-    if place >= bytes.len() {
-        return Err(Refusal::EndsTooSoon);
-    }
-    let first = u64::from(bytes[place]);
-    if first < MORE {
-        return Ok(Varint {
-            value: first as u32,
-            next: place + 1,
-        });
-    }
-    if bytes.len() - place > 1 {
-        let second = u64::from(bytes[place + 1]);
-        if second < MORE {
+impl Place<'_> {
+    // The number at the place. Most keys and lengths are said by one byte or two, and these are read without a call.
+    pub fn number(self) -> Result<Varint, Refusal>
+        ensures { number_of result ≡ number_at self.entry.bytes.now self.entry.at }
+    {
+        let Place { bytes, at } = self;
+        if at >= bytes.len() {
+            return Err(Refusal::EndsTooSoon);
+        }
+        let first = u64::from(bytes[at]);
+        if first < MORE {
             return Ok(Varint {
-                value: (first - MORE + MORE * second) as u32,
-                next: place + 2,
+                value: first as u32,
+                next: at + 1,
             });
         }
-    }
-    long_number(&bytes[place..], place)
-}
-
-// The same of an entry of a list, which may well have five bytes: where these are there, the compiler can leave out the tests
-// for the end. Each answer is opened by `?` and made anew: passed on whole, its case is tested twice in every turn of the loop.
-pub(crate) fn entry(bytes: &[u8], place: usize) -> Result<Varint, Refusal>
-    requires { place ≤ length bytes.now }
-    ensures { number_of result ≡ number_at bytes.now place }
-{
-    if bytes.len() - place < SHORT_WIDTH {
-        let entry = number(bytes, place)?;
-        return Ok(entry);
-    }
-    match first_bytes(&bytes[place..], SHORT_WIDTH) {
-        Said::Value(number, width) => {
-            let entry = fitting(number, place + width)?;
-            Ok(entry)
+        if bytes.len() - at > 1 {
+            let second = u64::from(bytes[at + 1]);
+            if second < MORE {
+                return Ok(Varint {
+                    value: (first - MORE + MORE * second) as u32,
+                    next: at + 2,
+                });
+            }
         }
-        Said::Cut => Err(Refusal::EndsTooSoon),
-        Said::More(_) => {
-            let entry = long_number(&bytes[place..], place)?;
-            Ok(entry)
+        long_number(&bytes[at..], at)
+    }
+
+    // The same of an entry of a list, which may well have five bytes: where these are there, the compiler can leave out the
+    // tests for the end. Each answer is opened by `?` and made anew: passed on whole, its case is tested twice in every turn
+    // of the loop.
+    pub(crate) fn entry(self) -> Result<Varint, Refusal>
+        requires { self.at ≤ length self.bytes.now }
+        ensures { number_of result ≡ number_at self.entry.bytes.now self.entry.at }
+    {
+        if self.bytes.len() - self.at < SHORT_WIDTH {
+            let entry = self.number()?;
+            return Ok(entry);
+        }
+        match first_bytes(&self.bytes[self.at..], SHORT_WIDTH) {
+            Said::Value(number, width) => {
+                let entry = fitting(number, self.at + width)?;
+                Ok(entry)
+            }
+            Said::Cut => Err(Refusal::EndsTooSoon),
+            Said::More(_) => {
+                let entry = long_number(&self.bytes[self.at..], self.at)?;
+                Ok(entry)
+            }
         }
     }
-}
 
-// The bit at a place.
-pub fn bit(bytes: &[u8], place: usize) -> Result<Varint, Refusal>
-    ensures { number_of result ≡ bit_at bytes.now place }
-{
-    let bit = number(bytes, place)?;
-    if bit.value > LARGEST_BIT {
-        return Err(Refusal::NumberTooLarge);
+    // The bit at the place.
+    pub fn bit(self) -> Result<Varint, Refusal>
+        ensures { number_of result ≡ bit_at self.entry.bytes.now self.entry.at }
+    {
+        let bit = self.number()?;
+        if bit.value > LARGEST_BIT {
+            return Err(Refusal::NumberTooLarge);
+        }
+        Ok(bit)
     }
-    Ok(bit)
 }

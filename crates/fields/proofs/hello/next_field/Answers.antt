@@ -11,7 +11,7 @@ pub returns-in_err-key : goal.returns-in_err-key
 returns-in_err-key c =
     let a = c.args in
     rw (passed_on _ c.from_residual.ensures.1)
-    (λ f m. key_faulty 1 a.bytes.now a.place f a.provers.now a.verifiers.now _ (sym c.in_err-key.ensures))
+    (λ f m. key_faulty 1 a.place.bytes.now a.place.at f a.provers.now a.verifiers.now _ (sym c.in_err-key.ensures))
 
 pub returns-in_err-token : goal.returns-in_err-token
 unfolding form_in
@@ -19,14 +19,14 @@ returns-in_err-token c =
     let a = c.args in
     let t = is_met _ 10 c.is_some-has_token.result c.if-key-has_token.true in
     rw (passed_on _ c.from_residual-in_err-token.ensures.1)
-    (λ f m. key_met 1 a.bytes.now a.place f a.provers.now a.verifiers.now _ _ (sym c.in_ok-key.ensures) 10 t.0 Bytes refl refl refl (ap (is_read Bytes) m ∙ sym c.is_some-has_token.ensures ∙ t.1) _ _ _ (bytes_content _ _ f _ _ (Err _) c.in_err-token.ensures))
+    (λ f m. key_met 1 a.place.bytes.now a.place.at f a.provers.now a.verifiers.now _ _ (sym c.in_ok-key.ensures) 10 t.0 Bytes refl refl refl (ap (is_read Bytes) m ∙ sym c.is_some-has_token.ensures ∙ t.1) _ _ _ (bytes_content _ _ f _ _ (Err _) c.in_err-token.ensures))
 
 pub returns-then-key-has_token : goal.returns-then-key-has_token
 unfolding form_in
 returns-then-key-has_token c =
     let a = c.args in
     let t = is_met _ 10 c.is_some-has_token.result c.if-key-has_token.true in
-    λ f m. key_met 1 a.bytes.now a.place f a.provers.now a.verifiers.now _ _ (sym c.in_ok-key.ensures) 10 t.0 Bytes refl refl refl (ap (is_read Bytes) m ∙ sym c.is_some-has_token.ensures ∙ t.1) _ _ _ (bytes_content _ _ f _ _ (Ok _) c.in_ok-token.ensures)
+    λ f m. key_met 1 a.place.bytes.now a.place.at f a.provers.now a.verifiers.now _ _ (sym c.in_ok-key.ensures) 10 t.0 Bytes refl refl refl (ap (is_read Bytes) m ∙ sym c.is_some-has_token.ensures ∙ t.1) _ _ _ (bytes_content _ _ f _ _ (Ok _) c.in_ok-token.ensures)
 
 pub returns-in_err-list : goal.returns-in_err-list
 unfolding form_in
@@ -34,14 +34,14 @@ returns-in_err-list c =
     let a = c.args in
     let t = is_met _ 18 c.is_some-has_provers.result c.if-key-has_provers.true in
     rw (passed_on _ c.from_residual-in_err-list.ensures.1)
-    (λ f m. key_met 1 a.bytes.now a.place f a.provers.now a.verifiers.now _ _ (sym c.in_ok-key.ensures) 18 t.0 Provers refl refl refl (ap (is_read Provers) m ∙ sym c.is_some-has_provers.ensures ∙ t.1) _ _ _ (provers_content _ _ f _ _ _ (Err _) c.in_err-list.ensures.suites_after c.in_err-list.ensures.stored))
+    (λ f m. key_met 1 a.place.bytes.now a.place.at f a.provers.now a.verifiers.now _ _ (sym c.in_ok-key.ensures) 18 t.0 Provers refl refl refl (ap (is_read Provers) m ∙ sym c.is_some-has_provers.ensures ∙ t.1) _ _ _ (provers_content _ _ f _ _ _ (Err _) c.in_err-list.ensures.suites_after c.in_err-list.ensures.stored))
 
 pub returns-then-key-has_provers : goal.returns-then-key-has_provers
 unfolding form_in
 returns-then-key-has_provers c =
     let a = c.args in
     let t = is_met _ 18 c.is_some-has_provers.result c.if-key-has_provers.true in
-    λ f m. key_met 1 a.bytes.now a.place f a.provers.now a.verifiers.now _ _ (sym c.in_ok-key.ensures) 18 t.0 Provers refl refl refl (ap (is_read Provers) m ∙ sym c.is_some-has_provers.ensures ∙ t.1) _ _ _ (provers_content _ _ f _ _ _ (Ok _) c.in_ok-list.ensures.suites_after c.in_ok-list.ensures.stored)
+    λ f m. key_met 1 a.place.bytes.now a.place.at f a.provers.now a.verifiers.now _ _ (sym c.in_ok-key.ensures) 18 t.0 Provers refl refl refl (ap (is_read Provers) m ∙ sym c.is_some-has_provers.ensures ∙ t.1) _ _ _ (provers_content _ _ f _ _ _ (Ok _) c.in_ok-list.ensures.suites_after c.in_ok-list.ensures.stored)
 
 pub returns-in_err-list-2 : goal.returns-in_err-list-2
 unfolding form_in
@@ -49,14 +49,14 @@ returns-in_err-list-2 c =
     let a = c.args in
     let t = is_met _ 26 c.is_some-has_verifiers.result c.if-key-has_verifiers.true in
     rw (passed_on _ c.from_residual-in_err-list-2.ensures.1)
-    (λ f m. key_met 1 a.bytes.now a.place f a.provers.now a.verifiers.now _ _ (sym c.in_ok-key.ensures) 26 t.0 Verifiers refl refl refl (ap (is_read Verifiers) m ∙ sym c.is_some-has_verifiers.ensures ∙ t.1) _ _ _ (verifiers_content _ _ f _ _ _ (Err _) c.in_err-list-2.ensures.suites_after c.in_err-list-2.ensures.stored))
+    (λ f m. key_met 1 a.place.bytes.now a.place.at f a.provers.now a.verifiers.now _ _ (sym c.in_ok-key.ensures) 26 t.0 Verifiers refl refl refl (ap (is_read Verifiers) m ∙ sym c.is_some-has_verifiers.ensures ∙ t.1) _ _ _ (verifiers_content _ _ f _ _ _ (Err _) c.in_err-list-2.ensures.suites_after c.in_err-list-2.ensures.stored))
 
 pub returns-then-key-has_verifiers : goal.returns-then-key-has_verifiers
 unfolding form_in
 returns-then-key-has_verifiers c =
     let a = c.args in
     let t = is_met _ 26 c.is_some-has_verifiers.result c.if-key-has_verifiers.true in
-    λ f m. key_met 1 a.bytes.now a.place f a.provers.now a.verifiers.now _ _ (sym c.in_ok-key.ensures) 26 t.0 Verifiers refl refl refl (ap (is_read Verifiers) m ∙ sym c.is_some-has_verifiers.ensures ∙ t.1) _ _ _ (verifiers_content _ _ f _ _ _ (Ok _) c.in_ok-list-2.ensures.suites_after c.in_ok-list-2.ensures.stored)
+    λ f m. key_met 1 a.place.bytes.now a.place.at f a.provers.now a.verifiers.now _ _ (sym c.in_ok-key.ensures) 26 t.0 Verifiers refl refl refl (ap (is_read Verifiers) m ∙ sym c.is_some-has_verifiers.ensures ∙ t.1) _ _ _ (verifiers_content _ _ f _ _ _ (Ok _) c.in_ok-list-2.ensures.suites_after c.in_ok-list-2.ensures.stored)
 
 pub returns : goal.returns
 returns c =
@@ -66,5 +66,5 @@ returns c =
     let v = c.is_some-has_verifiers in
     let same : marks _ _ _ false ≡ marks t.result p.result v.result false = λ i. marks (sym t.ensures i) (sym p.ensures i) (sym v.ensures i) false in
     λ f m.
-    key_refused 1 a.bytes.now a.place f a.provers.now a.verifiers.now _ _ (sym c.in_ok-key.ensures) (marks t.result p.result v.result false) (m ∙ same)
+    key_refused 1 a.place.bytes.now a.place.at f a.provers.now a.verifiers.now _ _ (sym c.in_ok-key.ensures) (marks t.result p.result v.result false) (m ∙ same)
     _ (hello_refuses _ t.result p.result v.result c.if-key-has_token.false c.if-key-has_provers.false c.if-key-has_verifiers.false) _ c.misfit.ensures

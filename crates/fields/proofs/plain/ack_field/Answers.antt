@@ -15,7 +15,7 @@ returns-in_err-bit c =
     let t = is_met_in (eqb a.message 9) a.key 8 a.has_bit c.if-is_ack-key.true in
     rw (passed_on _ c.from_residual.ensures.1)
     (λ bytes place e f m provers verifiers.
-    key_met a.message a.bytes.now place f provers verifiers _ _ e 8 t.1.0 Bit (ap (λ (n : ℕ). form_in n 1) (eqb-true a.message 9 t.0)) refl refl (ap (is_read Bit) m ∙ t.1.1) _ _ _ (bit_content _ _ f provers verifiers (Err _) c.in_err-bit.ensures))
+    key_met a.message a.content.bytes.now place f provers verifiers _ _ e 8 t.1.0 Bit (ap (λ (n : ℕ). form_in n 1) (eqb-true a.message 9 t.0)) refl refl (ap (is_read Bit) m ∙ t.1.1) _ _ _ (bit_content _ _ f provers verifiers (Err _) c.in_err-bit.ensures))
 
 pub returns-then-is_ack-key : goal.returns-then-is_ack-key
 unfolding form_in
@@ -23,11 +23,11 @@ returns-then-is_ack-key c =
     let a = c.args in
     let t = is_met_in (eqb a.message 9) a.key 8 a.has_bit c.if-is_ack-key.true in
     λ bytes place e f m provers verifiers.
-    key_met a.message a.bytes.now place f provers verifiers _ _ e 8 t.1.0 Bit (ap (λ (n : ℕ). form_in n 1) (eqb-true a.message 9 t.0)) refl refl (ap (is_read Bit) m ∙ t.1.1) _ _ _ (bit_content _ _ f provers verifiers (Ok _) c.in_ok-bit.ensures)
+    key_met a.message a.content.bytes.now place f provers verifiers _ _ e 8 t.1.0 Bit (ap (λ (n : ℕ). form_in n 1) (eqb-true a.message 9 t.0)) refl refl (ap (is_read Bit) m ∙ t.1.1) _ _ _ (bit_content _ _ f provers verifiers (Ok _) c.in_ok-bit.ensures)
 
 pub returns : goal.returns
 returns c =
     let a = c.args in
     λ bytes place e f m provers verifiers.
-    key_refused a.message a.bytes.now place f provers verifiers _ _ e (plain_marks bytes a.has_bit) m
+    key_refused a.message a.content.bytes.now place f provers verifiers _ _ e (plain_marks bytes a.has_bit) m
     _ (ack_refuses a.key a.message bytes a.has_bit c.requires c.if-is_ack-key.false) _ c.misfit.ensures

@@ -8,17 +8,17 @@ pub returns-in_err-plain : goal.returns-in_err-plain
 returns-in_err-plain c =
     let a = c.args in
     rw (passed_on _ c.from_residual.ensures.1)
-    (λ provers verifiers. reads_as _ _ _ _ provers verifiers provers verifiers (sym (inner_refused a.message a.bytes.now a.part.place a.part.size c.requires.within _ c.in_err-plain.ensures))
+    (λ provers verifiers. reads_as _ _ _ _ provers verifiers provers verifiers (sym (inner_refused a.message.number a.bytes.now a.part.place a.part.size c.requires _ c.in_err-plain.ensures))
     (reads_refused _ _ provers verifiers))
 
 pub returns-then-end-bytes : goal.returns-then-end-bytes
 returns-then-end-bytes c =
     let a = c.args in
-    λ provers verifiers. reads_as _ _ _ _ provers verifiers provers verifiers (sym (inner_trailing a.message a.bytes.now a.part.place a.part.size c.requires.within _ c.in_ok-plain.ensures c.if-end-bytes.true))
+    λ provers verifiers. reads_as _ _ _ _ provers verifiers provers verifiers (sym (inner_trailing a.message.number a.bytes.now a.part.place a.part.size c.requires _ c.in_ok-plain.ensures c.if-end-bytes.true))
     (reads_refused _ UnexpectedField provers verifiers)
 
 pub returns : goal.returns
 returns c =
     let a = c.args in
-    λ provers verifiers. reads_as _ _ _ _ provers verifiers provers verifiers (sym (inner_read a.message a.bytes.now a.part.place a.part.size c.requires.within _ c.in_ok-plain.ensures c.if-end-bytes.false))
-    (reads_plain a.message _ _ c.requires.not_hello provers verifiers)
+    λ provers verifiers. reads_as _ _ _ _ provers verifiers provers verifiers (sym (inner_read a.message.number a.bytes.now a.part.place a.part.size c.requires _ c.in_ok-plain.ensures c.if-end-bytes.false))
+    (reads_plain a.message.number _ _ c.args.message.not_hello provers verifiers)

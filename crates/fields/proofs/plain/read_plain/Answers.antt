@@ -11,7 +11,7 @@ same_marks : {bytes bit has_bytes has_bit : Bool} → has_bytes ≡ bytes → ha
 same_marks e k = λ i. plain_marks (sym e i) (sym k i)
 
 pub loop-at-init : goal.loop-at-init
-loop-at-init c = begins c.args.message c.args.bytes.now c.args.start [] []
+loop-at-init c = begins c.args.message.number c.args.bytes.now c.args.start [] []
 
 pub returns-in_err-field : goal.returns-in_err-field
 returns-in_err-field c =

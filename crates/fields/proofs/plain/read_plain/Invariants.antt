@@ -13,7 +13,7 @@ state part bit =
     fields (plain_marks (is_some part) (is_some bit)) span.place span.size (unwrap_or bit 0) 0 0
 
 abbrev pub invariant-loop-at : goal.invariant-loop-at
-invariant-loop-at l = Onward l.message l.bytes l.start (state l.part l.bit) [] [] l.at
+invariant-loop-at l = Onward l.message.number l.bytes l.start (state l.part l.bit) [] [] l.at
 
 abbrev pub decreases-loop-at : goal.decreases-loop-at
 decreases-loop-at l = length l.bytes - l.at

@@ -1,7 +1,7 @@
 use Rattle.std.proofs.Common.{sym, ◌∙◌}
 use Rattle.fault.proofs.Passed.{passed_on}
 use Rattle.wire.proofs.Lists.{none_taken, packed_faulty, packed_list}
-use Rattle.wire.proofs.list.packed_at.Goals as goal
+use Rattle.wire.proofs.Place.packed.Goals as goal
 
 pub returns-in_err-part-clause-suites_after : goal.returns-in_err-part-clause-suites_after
 returns-in_err-part-clause-suites_after c =
