@@ -9,7 +9,7 @@ use table::states;
 
 // The record of a connection. Its fields are numbers, since a host may lend any twelve: `well_formed` tests them. A tag is 0 when
 // its driver or timer is off, else the number of the handled event that started it.
-#[derive(Clone, Copy)]
+#[derive(Clone, Copy, Default)]
 pub struct Connection {
     pub state: u32,
     // Document 01's ack flag: 1 while a block waits for its acknowledgement.
@@ -41,17 +41,8 @@ pub fn cleared(state: u32, handled: u32) -> Connection
 {
     Connection {
         state,
-        awaiting_ack: 0,
-        next_send_bit: 0,
-        expected_bit: 0,
-        cached_len: 0,
         handled,
-        h: 0,
-        prover: 0,
-        verifier: 0,
-        dat: 0,
-        ra: 0,
-        ack: 0,
+        ..Connection::default()
     }
 }
 
