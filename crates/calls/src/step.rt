@@ -2,8 +2,7 @@
 use crate::lists::Lists;
 use arrayvec::ArrayVec;
 use capi::menhotrac_step;
-use connection::part;
-use flat::actions_in;
+use connection::{Actions, part};
 use interface::FlatEvent;
 use scan::{BYTES, Group, Groups};
 use std::io;
@@ -65,7 +64,7 @@ impl Row {
             self.lists.our_provers.as_slice(),
         );
         let cache = self.cache.as_slice();
-        let sent = part(actions_in(&actions), self.payload.as_slice(), cache);
+        let sent = part(Actions::from(&actions), self.payload.as_slice(), cache);
         let record = Numbers(&self.record);
         write!(out, "step {answer} ;{record} ;{}", Numbers(&actions))?;
         writeln!(out, " ;{} ;{}", Runs(sent), Runs(cache))

@@ -7,7 +7,7 @@ use lib.ListN.{length, take, drop}
 use borrow.Author.Tests.{le-ltb, ne_eqb}
 use Rattle.std.specs.Prelude.{Option}
 use Rattle.connection.specs.Also.{result_also}
-use Rattle.flat.specs.Flat.{record_in}
+use Rattle.record.specs.Numbers.{record_in}
 use Rattle.arrival.specs.Arrival.{also_of, code_of}
 use Rattle.inbound.specs.Received.{Given, call_from, given, received, received_as}
 use Rattle.messages.proofs.Lengths.{all_there}

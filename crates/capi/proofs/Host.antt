@@ -9,7 +9,7 @@ use lib.ListN.{length}
 use Rattle.std.specs.Prelude.{None, Some}
 use Rattle.connection.specs.Also.{result_also}
 use Rattle.decision.specs.Also.{decided_also}
-use Rattle.flat.specs.Flat.{record_in}
+use Rattle.record.specs.Numbers.{record_in}
 use Rattle.event.specs.Call.{Call, input_of}
 use Rattle.protocol.specs.Agreement.{AllAgree}
 use Rattle.protocol.specs.Along.{Along}

@@ -12,7 +12,7 @@ use Rattle.std.specs.Prelude.{Option, None, Some}
 use Rattle.connection.specs.Also.{result_also}
 use Rattle.decision.specs.Also.{decided_also}
 use Rattle.event.specs.Call.{Call, carries_payload, input_of}
-use Rattle.flat.specs.Flat.{slots_of}
+use Rattle.protocol.specs.Sheet.{slots_of}
 use Rattle.record.specs.Limits.{limits}
 use Rattle.record.specs.declared.Connection.{Connection}
 use Rattle.protocol.specs.Actions.{length_of, source_of}

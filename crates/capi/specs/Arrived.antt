@@ -1,6 +1,6 @@
 -- Request #101, "Joined to the step": a message that arrived, as a host in C hands it over.
 use Rattle.std.specs.Prelude.{ℕ, ◌+◌, ◌≤◌, ◌≡◌, Option, None, Some, cond, List, [], eqb, ltb, length, take, drop}
-use Rattle.flat.specs.Flat.{record_in}
+use Rattle.record.specs.Numbers.{record_in}
 use Rattle.arrival.specs.Arrival.{code_of}
 use Rattle.inbound.specs.Received.{given, received}
 use Rattle.token.specs.declared.Token.{Token}

@@ -1,6 +1,6 @@
 -- Demand 3 and the audit at the interface for C: what a host in C gets over a list of calls are the numbers of the results that they speak of.
 use Rattle.std.specs.Prelude.{ℕ, ◌≡◌, false, List, [], ◌∷◌}
-use Rattle.flat.specs.Flat.{record_in}
+use Rattle.record.specs.Numbers.{record_in}
 use Rattle.event.specs.Call.{Call, call_of}
 use Rattle.protocol.specs.Along.{Along}
 use Rattle.protocol.specs.Step.{Result}

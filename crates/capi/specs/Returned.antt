@@ -1,7 +1,8 @@
 -- What a host in C gets for a call.
 use Rattle.std.specs.Prelude.{ℕ, List}
 use Rattle.connection.specs.Also.{result_also}
-use Rattle.flat.specs.Flat.{record_in, slots_of}
+use Rattle.record.specs.Numbers.{record_in}
+use Rattle.protocol.specs.Sheet.{slots_of}
 use Rattle.event.specs.Call.{call_of}
 use Rattle.record.specs.declared.Connection.{Connection}
 use Rattle.protocol.specs.Step.{Result}

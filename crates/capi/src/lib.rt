@@ -8,7 +8,7 @@ ghost use Rattle.std.specs.Prelude.{◌≡◌, ◌+◌, ◌≤◌, length};
 ghost use Rattle.capi.specs.Part.{Within, part_in};
 ghost use Rattle.capi.specs.Returned.{returned};
 ghost use Rattle.arrival.specs.Arrival.{code_of};
-ghost use Rattle.flat.specs.Flat.{numbers_of, record_in};
+ghost use Rattle.record.specs.Numbers.{numbers_of, record_in};
 ghost use Rattle.interface.specs.Choice.{chosen_of};
 ghost use Rattle.interface.specs.Event.{flat_event_with};
 ghost use Rattle.record.specs.WellFormed as spec;
@@ -20,7 +20,6 @@ ghost use Rattle.fields.specs.Contents.{provers_after, verifiers_after};
 
 use arrival::code_of;
 use connection::{Lists, fresh, step_flat};
-use flat::numbers_of;
 use interface::{FlatEvent, FlatToken, answer, choice, event_in, refused_as, time};
 use messages::{FlatMessage, read_flat};
 use token::seconds_left;
@@ -29,7 +28,7 @@ use token::seconds_left;
 pub fn menhotrac_fresh(connection: &mut [u32; 12])
     ensures { connection.new ≡ numbers_of spec.fresh }
 {
-    *connection = numbers_of(fresh());
+    *connection = fresh().into();
 }
 
 // Seconds left at a time, asked alone: the refusal, and the seconds.

@@ -5,7 +5,7 @@ ghost use Rattle.std.specs.Prelude.{◌≡◌, ◌+◌, ◌≤◌, length};
 ghost use Rattle.capi.specs.Part.{Within, part_in};
 ghost use Rattle.capi.specs.Returned.{returned};
 ghost use Rattle.arrival.specs.Arrival.{code_of};
-ghost use Rattle.flat.specs.Flat.{numbers_of, record_in};
+ghost use Rattle.record.specs.Numbers.{numbers_of, record_in};
 ghost use Rattle.interface.specs.Choice.{chosen_of};
 ghost use Rattle.interface.specs.Event.{flat_event_with};
 ghost use Rattle.record.specs.WellFormed as spec;

@@ -11,7 +11,8 @@ use Rattle.decision.specs.Also.{decided_also}
 use Rattle.decision.specs.Lent.{lent}
 use Rattle.event.specs.Call.{Call, input_of}
 use Rattle.event.specs.declared.Input.{Input}
-use Rattle.flat.specs.Flat.{record_in, slots_of}
+use Rattle.record.specs.Numbers.{record_in}
+use Rattle.protocol.specs.Sheet.{slots_of}
 use Rattle.flat.specs.Written.{Written}
 use Rattle.flat.proofs.Written.{as_written}
 use Rattle.record.specs.Limits.{limits}

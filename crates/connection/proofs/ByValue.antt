@@ -6,7 +6,8 @@ use Prim.Native.Nat.{ℕ}
 use lib.ListN.{length}
 use Rattle.std.specs.Prelude.{None}
 use Rattle.event.specs.Call.{Call, input_of}
-use Rattle.flat.specs.Flat.{numbers_of, record_in, slots_of, actions_in}
+use Rattle.record.specs.Numbers.{numbers_of, record_in}
+use Rattle.protocol.specs.Sheet.{slots_of, actions_in}
 use Rattle.flat.proofs.ReadBack.{back}
 use Rattle.record.specs.Limits.{limits}
 use Rattle.record.specs.declared.Connection.{Connection}

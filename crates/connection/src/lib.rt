@@ -10,13 +10,13 @@ ghost use Rattle.event.specs.Call.{call_with};
 ghost use Rattle.protocol.specs.Block.{stored};
 ghost use Rattle.protocol.specs.Step.{refusal_number, refusal_of, result_of};
 ghost use Rattle.connection.specs.Also.{result_also};
-ghost use Rattle.flat.specs.Flat.{record_in, slots_of};
+ghost use Rattle.record.specs.Numbers.{record_in};
+ghost use Rattle.protocol.specs.Sheet.{slots_of};
 
 use decision::decide;
 use effects::NO_ACTIONS;
 pub use event::{Event, timers};
 use event::{choose_suites, read};
-use flat::{actions_in, numbers_of, record_in, slots_of};
 pub use outcome::{part, refusal_number};
 pub use protocol::{Actions, Answer, Outcome, orders, refusals};
 pub use record::{Connection, fresh};
@@ -36,13 +36,13 @@ pub fn step(
     ensures answer_value { refusal_number result.answer ≡ refusal_of limits connection (call_with event payload.now lists.entry) (length cache.old) }
     ensures cache_after { cache.new ≡ (result_of limits connection (call_with event payload.now lists.entry) cache.old).cache }
 {
-    let mut numbers = numbers_of(connection);
-    let mut slots = slots_of(NO_ACTIONS);
+    let mut numbers = <[u32; 12]>::from(connection);
+    let mut slots = <[u32; 16]>::from(NO_ACTIONS);
     let answer = step_flat(&mut numbers, None, event, payload, lists, cache, &mut slots);
     Outcome {
         answer,
-        connection: record_in(&numbers),
-        actions: actions_in(&slots),
+        connection: Connection::from(&numbers),
+        actions: Actions::from(&slots),
     }
 }
 
@@ -65,7 +65,7 @@ pub fn step_flat(
     let code = event.code;
     let suites = choose_suites(code, lists);
     let input = read(event, payload.len(), cache.len(), suites);
-    let connection = record_in(numbers);
+    let connection = Connection::from(&*numbers);
     let answer = decide(numbers, slots, also, connection, code, input);
     let Answer::Handled = answer else {
         return answer;

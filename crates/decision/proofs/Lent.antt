@@ -5,7 +5,8 @@ use mathlib.Core.List.{List}
 use Prim.Native.Nat.{ℕ}
 use Rattle.std.specs.Prelude.{Option, None, Some}
 use Rattle.event.specs.declared.Input.{Input}
-use Rattle.flat.specs.Flat.{record_in, slots_of}
+use Rattle.record.specs.Numbers.{record_in}
+use Rattle.protocol.specs.Sheet.{slots_of}
 use Rattle.flat.specs.Written.{Written}
 use Rattle.record.specs.declared.Connection.{Connection}
 use Rattle.protocol.specs.Actions.{no_actions}

@@ -4,14 +4,15 @@
 ghost use Rattle.std.specs.Prelude.{◌≡◌, Some, cond};
 ghost use Rattle.decision.specs.Also.{decided_also};
 ghost use Rattle.decision.specs.Lent.{lent, unmoved_answer};
-ghost use Rattle.flat.specs.Flat.{record_in, slots_of};
+ghost use Rattle.record.specs.Numbers.{record_in};
+ghost use Rattle.protocol.specs.Sheet.{slots_of};
 ghost use Rattle.flat.specs.Written.{Written};
 ghost use Rattle.protocol.specs.Actions.{no_actions};
 
 use dispatch::move_on;
 use effects::{NO_ACTIONS, Transition};
 use event::Input;
-use flat::{put, slots_of};
+use flat::put;
 use guards::{holds, lowest_fault};
 use lifecycle::lock;
 use protocol::{Answer, refusals};
@@ -72,7 +73,7 @@ fn unmoved(slots: &mut [u32; 16], refusal: Option<u32>) -> Answer
     ensures value { result ≡ unmoved_answer refusal }
     ensures slots_after { slots.new ≡ slots_of no_actions }
 {
-    *slots = slots_of(NO_ACTIONS);
+    *slots = NO_ACTIONS.into();
     match refusal {
         Some(number) => Answer::Refused(number),
         None => Answer::Ignored,

@@ -2,14 +2,14 @@
 #![tactic(auto)]
 
 ghost use Rattle.std.specs.Prelude.{◌≡◌};
-ghost use Rattle.flat.specs.Flat.{record_in, slots_of};
+ghost use Rattle.record.specs.Numbers.{record_in};
+ghost use Rattle.protocol.specs.Sheet.{slots_of};
 ghost use Rattle.messages.specs.Outer.{reading_of};
 ghost use Rattle.inbound.specs.Received.{first_entries, given, place_in, received};
 
 use arrival::{also_of, event_of};
 use connection::{Answer, Lists, Token, refusals, step_flat};
 use effects::NO_ACTIONS;
-use flat::slots_of;
 use messages::{Span, part, read_flat};
 
 // The answer, and where the token or payload lies in the bytes.
@@ -49,7 +49,7 @@ pub fn receive(
     let message = read_flat(bytes, &mut provers, &mut verifiers);
     let refusal = message.refusal;
     if refusal > refusals::NONE {
-        *slots = slots_of(NO_ACTIONS);
+        *slots = NO_ACTIONS.into();
         return Receipt {
             answer: Answer::Refused(refusal),
             place: 0,

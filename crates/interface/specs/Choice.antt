@@ -1,6 +1,6 @@
 -- The suite choice, asked alone, in numbers.
 use Rattle.std.specs.Prelude.{ℕ, List, [], ◌∷◌}
-use Rattle.flat.specs.Flat.{as_number}
+use Rattle.protocol.specs.Sheet.{as_number}
 use Rattle.suites.specs.Answer.{Answer}
 
 -- Whether the verifier's suite was found, that suite, and both for the prover's.

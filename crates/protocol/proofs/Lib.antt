@@ -14,6 +14,7 @@ pub mod Joined
 mod Kept
 pub mod Live
 pub mod Moved
+pub mod Sheet
 mod Standings
 pub mod Stepped
 mod Tasks

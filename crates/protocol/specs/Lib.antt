@@ -5,6 +5,7 @@ pub mod Faults
 pub mod Refusal
 pub mod Advance
 pub mod Actions
+pub mod Sheet
 pub mod Block
 pub mod Step
 pub mod Run

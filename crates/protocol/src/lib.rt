@@ -2,6 +2,9 @@
 // The code that computes it is the crate `connection`; here are the types that definitions and code share.
 #![tactic(auto)]
 
+ghost use Rattle.std.specs.Prelude.{◌≡◌};
+ghost use Rattle.protocol.specs.Sheet.{actions_in, slots_of};
+
 pub mod orders;
 pub mod refusals;
 
@@ -49,4 +52,56 @@ pub struct Outcome {
     pub answer: Answer,
     pub connection: Connection,
     pub actions: Actions,
+}
+
+// The order sheet that sixteen numbers are.
+impl From<&[u32; 16]> for Actions {
+    ghost from_gives = { λ slots actions. actions ≡ actions_in slots.now };
+
+    fn from(slots: &[u32; 16]) -> Actions {
+        Actions {
+            message: slots[0],
+            prover: slots[1],
+            verifier: slots[2],
+            h: slots[3],
+            hp: slots[4],
+            hv: slots[5],
+            dat: slots[6],
+            ra: slots[7],
+            ack: slots[8],
+            dat_seconds: slots[9],
+            bit: slots[10],
+            deliver: slots[11] == 1,
+            verifier_suite: slots[12],
+            prover_suite: slots[13],
+            payload_slice: slots[14],
+            payload_len: slots[15],
+        }
+    }
+}
+
+// The slots of an order sheet.
+impl From<Actions> for [u32; 16] {
+    ghost from_gives = { λ actions slots. slots ≡ slots_of actions };
+
+    fn from(actions: Actions) -> [u32; 16] {
+        [
+            actions.message,
+            actions.prover,
+            actions.verifier,
+            actions.h,
+            actions.hp,
+            actions.hv,
+            actions.dat,
+            actions.ra,
+            actions.ack,
+            actions.dat_seconds,
+            actions.bit,
+            u32::from(actions.deliver),
+            actions.verifier_suite,
+            actions.prover_suite,
+            actions.payload_slice,
+            actions.payload_len,
+        ]
+    }
 }

@@ -2,3 +2,4 @@ pub mod Limits
 pub mod Timer
 pub mod Tags
 pub mod WellFormed
+pub mod Numbers

@@ -1,7 +1,7 @@
 // What number, flag, bits and tags of a well-formed record are in each state.
 ghost use Rattle.std.specs.Prelude.{◌≡◌, ◌&&◌, T, eqb, leb};
 ghost use Rattle.record.specs.WellFormed.{fits_state};
-ghost use Rattle.well_formed.specs.Tag.{on_just};
+ghost use Rattle.well_formed.specs.Tag.{on_just, tags_fit};
 
 use record::Connection;
 use table::states;
@@ -80,14 +80,14 @@ pub(crate) fn fits_state(c: Connection) -> bool
 
 // Whether bits and flag are 0, and just these tags are on.
 fn fits_closed(on: Tags, c: Connection) -> bool
-    ensures { result ≡ ((eqb c.next_send_bit 0 && eqb c.expected_bit 0) && (eqb c.awaiting_ack 0 && (on_just on.h c.h && on_just on.prover c.prover && on_just on.verifier c.verifier && on_just on.dat c.dat && on_just on.ra c.ra && on_just on.ack c.ack))) }
+    ensures { result ≡ ((eqb c.next_send_bit 0 && eqb c.expected_bit 0) && (eqb c.awaiting_ack 0 && tags_fit on c)) }
 {
     ((c.next_send_bit == 0) & (c.expected_bit == 0)) & ((c.awaiting_ack == 0) & tags_fit(on, c))
 }
 
 // Whether just these tags are on.
 fn tags_fit(on: Tags, c: Connection) -> bool
-    ensures { result ≡ (on_just on.h c.h && on_just on.prover c.prover && on_just on.verifier c.verifier && on_just on.dat c.dat && on_just on.ra c.ra && on_just on.ack c.ack) }
+    ensures { result ≡ tags_fit on c }
 {
     on_just(on.h, c.h)
         & on_just(on.prover, c.prover)

@@ -3,7 +3,8 @@ use mathlib.Core.Path.{◌≡◌, ap, ◌∙◌}
 use Prim.Native.Nat.{ℕ}
 use Rattle.std.specs.Prelude.{Option}
 use Rattle.connection.specs.Also.{result_also}
-use Rattle.flat.specs.Flat.{record_in, slots_of}
+use Rattle.record.specs.Numbers.{record_in}
+use Rattle.protocol.specs.Sheet.{slots_of}
 use Rattle.event.specs.Call.{call_of}
 use Rattle.event.specs.declared.Event.{Event}
 use Rattle.protocol.specs.Step.{Result}

@@ -5,7 +5,8 @@ use Prim.Native.Nat.{ℕ, ◌≤◌}
 use lib.ListN.{length, replicate}
 use Rattle.event.specs.Call.{call_of}
 use Rattle.event.specs.declared.Event.{Event}
-use Rattle.flat.specs.Flat.{record_in, slots_of}
+use Rattle.record.specs.Numbers.{record_in}
+use Rattle.protocol.specs.Sheet.{slots_of}
 use Rattle.protocol.specs.Step.{Result}
 use Rattle.std.specs.Prelude.{Option}
 use Rattle.connection.specs.Also.{result_also}
@@ -26,7 +27,7 @@ returns-then-refusal-gt-NONE c =
     record {
       answer_value = sym (ap (λ (x : Result). x.outcome.answer) e);
       numbers_after = sym (ap (λ (x : Result). x.outcome.connection) e);
-      slots_after = c.slots_of.ensures ∙ sym (ap (λ (x : Result). slots_of x.outcome.actions) e);
+      slots_after = c.into.ensures ∙ sym (ap (λ (x : Result). slots_of x.outcome.actions) e);
       cache_after = sym (ap (λ (x : Result). x.cache) e);
       place_value = refused_place c.args.bytes.now _ _ r.result r.ensures.says c.if-refusal-gt-NONE.true;
     }

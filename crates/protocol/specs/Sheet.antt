@@ -1,47 +1,12 @@
--- Record and order sheet as a host in C holds them: numbers in a fixed order.
+-- The order sheet as a host in C holds it: sixteen numbers, in the order of `Actions`.
 use Rattle.std.specs.Prelude.{ℕ, Bool, cond, List, [], ◌∷◌, eqb, get_or}
 use Rattle.protocol.specs.declared.Actions.{Actions}
-use Rattle.record.specs.declared.Connection.{Connection}
 
 -- Yes or no as a number.
 abbrev pub as_number : Bool → ℕ
 as_number held = cond held 1 0
 
--- The fields of a record, in document 01's order.
-abbrev pub numbers_of : Connection → List ℕ
-numbers_of connection =
-    connection.state
-    ∷ connection.awaiting_ack
-    ∷ connection.next_send_bit
-    ∷ connection.expected_bit
-    ∷ connection.cached_len
-    ∷ connection.handled
-    ∷ connection.h
-    ∷ connection.prover
-    ∷ connection.verifier
-    ∷ connection.dat
-    ∷ connection.ra
-    ∷ connection.ack
-    ∷ []
-
--- The record that twelve numbers are.
-abbrev pub record_in : List ℕ → Connection
-record_in numbers = record {
-  state = get_or numbers 0 0;
-  awaiting_ack = get_or numbers 1 0;
-  next_send_bit = get_or numbers 2 0;
-  expected_bit = get_or numbers 3 0;
-  cached_len = get_or numbers 4 0;
-  handled = get_or numbers 5 0;
-  h = get_or numbers 6 0;
-  prover = get_or numbers 7 0;
-  verifier = get_or numbers 8 0;
-  dat = get_or numbers 9 0;
-  ra = get_or numbers 10 0;
-  ack = get_or numbers 11 0;
-}
-
--- The slots of the order sheet, in the order of `Actions`.
+-- The slots of an order sheet.
 abbrev pub slots_of : Actions → List ℕ
 slots_of actions =
     actions.message
