@@ -24,7 +24,7 @@ const WRONG_VERDICT: u32 = 41;
 
 // An event as a host in C hands it over: `Event` with the verdict as a number.
 #[repr(C)]
-#[derive(Clone, Copy)]
+#[derive(Clone, Copy, Debug, PartialEq, Eq)]
 pub struct FlatEvent {
     pub code: u32,
     pub tag: u32,
@@ -38,7 +38,7 @@ pub struct FlatEvent {
 
 // What a host says of a token, with its verdict as a number.
 #[repr(C)]
-#[derive(Clone, Copy)]
+#[derive(Clone, Copy, Debug, PartialEq, Eq)]
 pub struct FlatToken {
     pub verdict: u32,
     pub margin: u32,

@@ -4,7 +4,7 @@ use scan::{groups, item, number};
 use std::io;
 use std::io::Write;
 
-#[derive(Clone, Copy)]
+#[derive(Clone, Copy, Debug, PartialEq, Eq)]
 pub struct Row {
     expiry: i64,
     now: i64,
