@@ -2,10 +2,13 @@
 #![tactic(auto)]
 
 ghost use Rattle.std.specs.Prelude.{◌≡◌};
+ghost use Rattle.std.specs.Int.NonZero.{non_zero_u32_get};
+ghost use Rattle.std.specs.Option.{option_map};
 ghost use Rattle.arrival.specs.Arrival.{also_of, code_of, event_of};
 
 use event::Event;
 use fields::schema;
+use std::num::NonZeroU32;
 use table::codes;
 use token::Token;
 
@@ -44,8 +47,8 @@ pub fn event_of(number: u32, bit: u32, token: Token) -> Event
 }
 
 // A refusal of the host's interface concerns the messages that carry a token.
-pub fn also_of(number: u32, token_refusal: Option<u32>) -> Option<u32>
-    ensures { result ≡ also_of number token_refusal }
+pub fn also_of(number: u32, token_refusal: Option<NonZeroU32>) -> Option<NonZeroU32>
+    ensures { option_map non_zero_u32_get result ≡ also_of number (option_map non_zero_u32_get token_refusal) }
 {
     match number {
         schema::HELLO | schema::DAT => token_refusal,

@@ -5,6 +5,8 @@
 #![tactic(auto)]
 
 ghost use Rattle.std.specs.Prelude.{◌≡◌, ◌≤◌, length};
+ghost use Rattle.std.specs.Int.NonZero.{non_zero_u32_get};
+ghost use Rattle.std.specs.Option.{option_map};
 ghost use Rattle.record.specs.Limits.{limits};
 ghost use Rattle.event.specs.Call.{call_with};
 ghost use Rattle.protocol.specs.Block.{stored};
@@ -20,6 +22,7 @@ use event::{choose_suites, read};
 pub use outcome::{part, refusal_number};
 pub use protocol::{Actions, Answer, Outcome, orders, refusals};
 pub use record::{Connection, fresh};
+use std::num::NonZeroU32;
 pub use suites::Lists;
 pub use table::{codes, states};
 pub use token::Token;
@@ -50,17 +53,17 @@ pub fn step(
 // interface by its number there: it is given where the step refuses nothing.
 pub fn step_flat(
     numbers: &mut [u32; 12],
-    also: Option<u32>,
+    also: Option<NonZeroU32>,
     event: Event,
     payload: &[u8],
     lists: Lists<'_>,
     cache: &mut [u8],
     slots: &mut [u32; 16],
 ) -> Answer
-    ensures value { result ≡ (result_also also (record_in numbers.old) (call_with event payload.now lists.entry) cache.old).outcome.answer }
-    ensures numbers_after { record_in numbers.new ≡ (result_also also (record_in numbers.old) (call_with event payload.now lists.entry) cache.old).outcome.connection }
-    ensures slots_after { slots.new ≡ slots_of (result_also also (record_in numbers.old) (call_with event payload.now lists.entry) cache.old).outcome.actions }
-    ensures cache_after { cache.new ≡ (result_also also (record_in numbers.old) (call_with event payload.now lists.entry) cache.old).cache }
+    ensures value { result ≡ (result_also (option_map non_zero_u32_get also) (record_in numbers.old) (call_with event payload.now lists.entry) cache.old).outcome.answer }
+    ensures numbers_after { record_in numbers.new ≡ (result_also (option_map non_zero_u32_get also) (record_in numbers.old) (call_with event payload.now lists.entry) cache.old).outcome.connection }
+    ensures slots_after { slots.new ≡ slots_of (result_also (option_map non_zero_u32_get also) (record_in numbers.old) (call_with event payload.now lists.entry) cache.old).outcome.actions }
+    ensures cache_after { cache.new ≡ (result_also (option_map non_zero_u32_get also) (record_in numbers.old) (call_with event payload.now lists.entry) cache.old).cache }
 {
     let code = event.code;
     let suites = choose_suites(code, lists);

@@ -2,6 +2,8 @@
 #![tactic(auto)]
 
 ghost use Rattle.std.specs.Prelude.{◌≡◌, Some, cond};
+ghost use Rattle.std.specs.Int.NonZero.{non_zero_u32_get};
+ghost use Rattle.std.specs.Option.{option_map};
 ghost use Rattle.decision.specs.Also.{decided_also};
 ghost use Rattle.decision.specs.Lent.{lent, unmoved_answer};
 ghost use Rattle.record.specs.Numbers.{record_in};
@@ -17,6 +19,7 @@ use guards::{holds, lowest_fault};
 use lifecycle::lock;
 use protocol::{Answer, refusals};
 use record::Connection;
+use std::num::NonZeroU32;
 use table::{next_state, states};
 
 // Decides an event for a record and writes the actions and, where the event is handled, the record after it. `also` is a refusal
@@ -24,12 +27,12 @@ use table::{next_state, states};
 pub fn decide(
     numbers: &mut [u32; 12],
     slots: &mut [u32; 16],
-    also: Option<u32>,
+    also: Option<NonZeroU32>,
     connection: Connection,
     code: u32,
     input: Input,
 ) -> Answer
-    ensures { Written (lent (record_in numbers.old) (decided_also also connection code input)) result numbers.new slots.new }
+    ensures { Written (lent (record_in numbers.old) (decided_also (option_map non_zero_u32_get also) connection code input)) result numbers.new slots.new }
 {
     if let Some(fault) = lowest_fault(connection, code, input) {
         return unmoved(slots, Some(fault));
@@ -59,13 +62,13 @@ pub fn decide(
 }
 
 // Refusal 9 or, without its fault, that of the host's interface.
-fn late_refusal(margin_too_large: bool, also: Option<u32>) -> Option<u32>
-    ensures { result ≡ cond margin_too_large (Some 9) also }
+fn late_refusal(margin_too_large: bool, also: Option<NonZeroU32>) -> Option<u32>
+    ensures { result ≡ cond margin_too_large (Some 9) (option_map non_zero_u32_get also) }
 {
     if margin_too_large {
         return Some(refusals::MARGIN_TOO_LARGE);
     }
-    also
+    also.map(NonZeroU32::get)
 }
 
 // Refused or, without a refusal, ignored: no actions, and the record is not written.

@@ -3,8 +3,8 @@
 // event, the empty order sheet, and the outcome that they give.
 #![tactic(auto)]
 
-ghost use Rattle.std.specs.Prelude.{◌≡◌};
-ghost use Rattle.effects.specs.ByEvent.{clear, moved_alone, order_by};
+ghost use Rattle.std.specs.Prelude.{◌≡◌, cond, eqb};
+ghost use Rattle.effects.specs.ByEvent.{moved_alone};
 ghost use Rattle.protocol.specs.declared.Answer.TheVariants.{Handled};
 
 use event::Input;
@@ -32,7 +32,7 @@ pub const NO_ACTIONS: Actions = Actions {
 };
 
 // An event that is handled: the record before it, what the step reads of its call, the state that follows, and its number.
-#[derive(Clone, Copy)]
+#[derive(Clone, Copy, Debug, PartialEq, Eq)]
 pub struct Transition {
     pub before: Connection,
     pub input: Input,
@@ -64,12 +64,12 @@ pub fn handled(connection: Connection, actions: Actions) -> Outcome
     }
 }
 
-// The order that ends a timer which may be off: one that is off gets no cancel.
-pub fn cancel_if_on(tag: u32) -> u32
-    ensures { result ≡ order_by clear tag }
+// The order that ends a driver or a timer which may be off: one that is off gets none.
+pub fn order_if_on(order: u32, tag: u32) -> u32
+    ensures { result ≡ cond (eqb tag 0) 0 order }
 {
     match tag {
         0 => orders::NONE,
-        _ => orders::CANCEL,
+        _ => order,
     }
 }

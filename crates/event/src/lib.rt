@@ -22,7 +22,7 @@ const MAX_PAYLOAD: usize = 4096;
 
 // An event as the host hands it over. Only the fields that its code carries are read. Code, timer and bit are numbers, since
 // the step answers an unknown one with a refusal.
-#[derive(Clone, Copy)]
+#[derive(Clone, Copy, Debug, PartialEq, Eq)]
 pub struct Event {
     pub code: u32,
     pub tag: u32,
@@ -33,7 +33,7 @@ pub struct Event {
 }
 
 // What events carry besides their payload and their suite lists.
-#[derive(Clone, Copy)]
+#[derive(Clone, Copy, Debug, PartialEq, Eq)]
 pub enum EventKind {
     Plain,
     Tagged(u32),
@@ -49,7 +49,7 @@ const NO_SUITES: Chosen = Chosen {
 };
 
 // What the step reads of a call, besides the code.
-#[derive(Clone, Copy)]
+#[derive(Clone, Copy, Debug, PartialEq, Eq)]
 pub struct Input {
     pub tag: u32,
     pub timer: u32,
@@ -66,74 +66,78 @@ pub struct Input {
     pub suites: Chosen,
 }
 
-// The kind that an event's code fixes.
-#[tactic(auto, unfolding(crate::specs::Kind::kind_of))]
-fn kind_of(event: Event) -> EventKind
-    ensures { result ≡ kind_of event }
-{
-    let code = event.code;
-    match code {
-        RA_VERIFIER_OK..=RA_PROVER_MSG => EventKind::Tagged(event.tag),
-        SC_HELLO | SC_DAT => EventKind::Token(event.token),
-        SC_DATA | SC_ACK => EventKind::Bit(event.bit),
-        HANDSHAKE_TIMEOUT => EventKind::HandshakeTimeout {
-            tag: event.tag,
-            timer: event.timer,
-        },
-        DAT_TIMEOUT..=ACK_TIMEOUT => EventKind::Tagged(event.tag),
-        _ => EventKind::Plain,
+impl Event {
+    // The kind that its code fixes.
+    #[tactic(auto, unfolding(crate::specs::Kind::kind_of))]
+    fn kind(self) -> EventKind
+        ensures { result ≡ kind_of self }
+    {
+        match self.code {
+            RA_VERIFIER_OK..=RA_PROVER_MSG => EventKind::Tagged(self.tag),
+            SC_HELLO | SC_DAT => EventKind::Token(self.token),
+            SC_DATA | SC_ACK => EventKind::Bit(self.bit),
+            HANDSHAKE_TIMEOUT => EventKind::HandshakeTimeout {
+                tag: self.tag,
+                timer: self.timer,
+            },
+            DAT_TIMEOUT..=ACK_TIMEOUT => EventKind::Tagged(self.tag),
+            _ => EventKind::Plain,
+        }
     }
 }
 
-// The tag of a driver's report or a timeout. A field that a kind does not carry counts as 0, by `fields_of`.
-fn tag_in(kind: EventKind) -> u32
-    ensures { result ≡ (fields_of kind).tag }
-{
-    let (EventKind::Tagged(tag) | EventKind::HandshakeTimeout { tag, timer: _ }) = kind else {
-        return 0;
-    };
-    tag
-}
+// A field that a kind does not carry counts as 0, by `fields_of`.
+impl EventKind {
+    // The tag of a driver's report or a timeout.
+    fn tag(self) -> u32
+        ensures { result ≡ (fields_of self).tag }
+    {
+        let (EventKind::Tagged(tag) | EventKind::HandshakeTimeout { tag, timer: _ }) = self else {
+            return 0;
+        };
+        tag
+    }
 
-// The handshake timer that a timeout names.
-fn timer_in(kind: EventKind) -> u32
-    ensures { result ≡ (fields_of kind).timer }
-{
-    let EventKind::HandshakeTimeout { tag: _, timer } = kind else {
-        return 0;
-    };
-    timer
-}
+    // The handshake timer that a timeout names.
+    fn timer(self) -> u32
+        ensures { result ≡ (fields_of self).timer }
+    {
+        let EventKind::HandshakeTimeout { tag: _, timer } = self else {
+            return 0;
+        };
+        timer
+    }
 
-// The bit of a DATA or ACK.
-fn bit_in(kind: EventKind) -> u32
-    ensures { result ≡ (fields_of kind).bit }
-{
-    let EventKind::Bit(bit) = kind else {
-        return 0;
-    };
-    bit
-}
+    // The bit of a DATA or ACK.
+    fn bit(self) -> u32
+        ensures { result ≡ (fields_of self).bit }
+    {
+        let EventKind::Bit(bit) = self else {
+            return 0;
+        };
+        bit
+    }
 
-// The seconds left of a good token.
-#[tactic(auto, using(crate::proofs::Opening::if_good))]
-fn seconds_in(kind: EventKind) -> Option<u32>
-    ensures { result ≡ seconds_of (fields_of kind) }
-{
-    let EventKind::Token(token) = kind else {
-        return None;
-    };
-    token.good_seconds()
-}
+    // The seconds left of a good token.
+    #[tactic(auto, using(crate::proofs::Opening::if_good))]
+    fn seconds(self) -> Option<u32>
+        ensures { result ≡ seconds_of (fields_of self) }
+    {
+        let EventKind::Token(token) = self else {
+            return None;
+        };
+        token.good_seconds()
+    }
 
-// Whether a token's margin is too large.
-fn margin_too_large_in(kind: EventKind) -> bool
-    ensures { result ≡ (fields_of kind).large_margin }
-{
-    let EventKind::Token(token) = kind else {
-        return false;
-    };
-    margin_too_large(token.margin)
+    // Whether a token's margin is too large.
+    fn margin_too_large(self) -> bool
+        ensures { result ≡ (fields_of self).large_margin }
+    {
+        let EventKind::Token(token) = self else {
+            return false;
+        };
+        margin_too_large(token.margin)
+    }
 }
 
 // The suites of a hello; of another event the lists are not read.
@@ -182,13 +186,13 @@ pub fn read(
 ) -> Input
     ensures { result ≡ input_by limits event payload_len cache_len (answer_of suites) }
 {
-    let kind = kind_of(event);
+    let kind = event.kind();
     Input {
-        tag: tag_in(kind),
-        timer: timer_in(kind),
-        bit: bit_in(kind),
-        seconds: seconds_in(kind),
-        margin_too_large: margin_too_large_in(kind),
+        tag: kind.tag(),
+        timer: kind.timer(),
+        bit: kind.bit(),
+        seconds: kind.seconds(),
+        margin_too_large: kind.margin_too_large(),
         payload_len: short_len(payload_len),
         payload_too_long: payload_too_long(event.code, payload_len),
         cache_too_short: cache_len < MAX_PAYLOAD,

@@ -1,5 +1,7 @@
 -- Request #101, "Joined to the step": what the host gets for a message that arrived.
 use Rattle.std.specs.Prelude.{ℕ, Option, cond, List, [], ltb, length, take}
+use Rattle.std.specs.Int.NonZero.{non_zero_u32_get}
+use Rattle.std.specs.Option.{option_map}
 use Rattle.connection.specs.Also.{result_also}
 use Rattle.event.specs.Call.{Call, call_of}
 use Rattle.protocol.specs.Step.{Result, result_with, unchanged}
@@ -11,6 +13,7 @@ use Rattle.messages.specs.Outer.{reading_of}
 use Rattle.messages.specs.Numbers.{part_of}
 use Rattle.arrival.specs.Arrival.{also_of, event_of}
 use Rattle.token.specs.declared.Token.{Token}
+use Rattle.inbound.specs.declared.Given as code
 
 -- What the host gives with the bytes: what it says of the token, what its interface refuses of the token, if anything (`result_also`),
 -- and its own lists.
@@ -24,6 +27,10 @@ pub record Given : Type 0 where
 abbrev pub given : Token → Option ℕ → (our_verifiers our_provers : List ℕ) → Given
 given token token_refusal our_verifiers our_provers =
     record { token = token; token_refusal = token_refusal; our_verifiers = our_verifiers; our_provers = our_provers }
+
+-- The same as the code is given it.
+abbrev pub given_in : code.Given → Given
+given_in g = given g.token (option_map non_zero_u32_get g.token_refusal) g.our_verifiers.now g.our_provers.now
 
 -- The call that a message is: the event, the token or payload as a part of the bytes, our lists and the peer's.
 abbrev pub call_from : Message → (bytes : List ℕ) → Given → Call

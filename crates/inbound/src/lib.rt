@@ -5,15 +5,26 @@ ghost use Rattle.std.specs.Prelude.{◌≡◌};
 ghost use Rattle.record.specs.Numbers.{record_in};
 ghost use Rattle.protocol.specs.Sheet.{slots_of};
 ghost use Rattle.messages.specs.Outer.{reading_of};
-ghost use Rattle.inbound.specs.Received.{first_entries, given, place_in, received};
+ghost use Rattle.inbound.specs.Received.{first_entries, given_in, place_in, received};
 
 use arrival::{also_of, event_of};
 use connection::{Answer, Lists, Token, refusals, step_flat};
 use effects::NO_ACTIONS;
 use messages::{Span, part, read_flat};
+use std::num::NonZeroU32;
+
+// What the host gives with the bytes: what it says of the token, what its interface refuses of the token, and its own lists.
+// The refusal is given for a message with a token where the step refuses nothing.
+#[derive(Clone, Copy, Debug)]
+pub struct Given<'a> {
+    pub token: Token,
+    pub token_refusal: Option<NonZeroU32>,
+    pub our_verifiers: &'a [u32],
+    pub our_provers: &'a [u32],
+}
 
 // The answer, and where the token or payload lies in the bytes.
-#[derive(Clone, Copy)]
+#[derive(Clone, Copy, Debug, PartialEq, Eq)]
 pub struct Receipt {
     pub answer: Answer,
     pub place: usize,
@@ -26,22 +37,19 @@ fn first(list: &[u32], count: usize) -> &[u32]
     list.get(..count).unwrap_or(&[])
 }
 
-// Reads a message and steps with the event that it is. Bytes that are refused change nothing. `token_refusal` is a refusal
-// of the host's interface: it is given for a message with a token where the step refuses nothing.
+// Reads a message and steps with the event that it is. Bytes that are refused change nothing. The message is read in its flat form, since
+// `event_of` takes a number and a bit.
 pub fn receive(
     numbers: &mut [u32; 12],
     bytes: &[u8],
-    token: Token,
-    token_refusal: Option<u32>,
-    our_verifiers: &[u32],
-    our_provers: &[u32],
+    given: Given<'_>,
     cache: &mut [u8],
     slots: &mut [u32; 16],
 ) -> Receipt
-    ensures answer_value { result.answer ≡ (received (record_in numbers.old) bytes.now (given token token_refusal our_verifiers.now our_provers.now) cache.old).outcome.answer }
-    ensures numbers_after { record_in numbers.new ≡ (received (record_in numbers.old) bytes.now (given token token_refusal our_verifiers.now our_provers.now) cache.old).outcome.connection }
-    ensures slots_after { slots.new ≡ slots_of (received (record_in numbers.old) bytes.now (given token token_refusal our_verifiers.now our_provers.now) cache.old).outcome.actions }
-    ensures cache_after { cache.new ≡ (received (record_in numbers.old) bytes.now (given token token_refusal our_verifiers.now our_provers.now) cache.old).cache }
+    ensures answer_value { result.answer ≡ (received (record_in numbers.old) bytes.now (given_in given.entry) cache.old).outcome.answer }
+    ensures numbers_after { record_in numbers.new ≡ (received (record_in numbers.old) bytes.now (given_in given.entry) cache.old).outcome.connection }
+    ensures slots_after { slots.new ≡ slots_of (received (record_in numbers.old) bytes.now (given_in given.entry) cache.old).outcome.actions }
+    ensures cache_after { cache.new ≡ (received (record_in numbers.old) bytes.now (given_in given.entry) cache.old).cache }
     ensures place_value { result.place ≡ place_in (reading_of bytes.now) }
 {
     let mut provers = [0; 16];
@@ -65,14 +73,14 @@ pub fn receive(
     );
     let answer = step_flat(
         numbers,
-        also_of(message.number, token_refusal),
-        event_of(message.number, message.bit, token),
+        also_of(message.number, given.token_refusal),
+        event_of(message.number, message.bit, given.token),
         payload,
         Lists {
-            our_verifiers,
+            our_verifiers: given.our_verifiers,
             peer_provers: first(&provers, message.provers),
             peer_verifiers: first(&verifiers, message.verifiers),
-            our_provers,
+            our_provers: given.our_provers,
         },
         cache,
         slots,

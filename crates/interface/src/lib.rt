@@ -3,6 +3,8 @@
 #![tactic(auto)]
 
 ghost use Rattle.std.specs.Prelude.{◌≡◌};
+ghost use Rattle.std.specs.Int.NonZero.{non_zero_u32_get};
+ghost use Rattle.std.specs.Option.{option_map};
 ghost use Rattle.interface.specs.Event.{event_of, flat_event_with};
 ghost use Rattle.interface.specs.Verdict.{refused_as, wrong_verdict};
 
@@ -11,6 +13,7 @@ pub mod choice;
 pub mod time;
 
 use event::Event;
+use std::num::NonZeroU32;
 use table::codes;
 use token::Token;
 
@@ -21,7 +24,7 @@ const WRONG_VERDICT: u32 = 41;
 
 // An event as a host in C hands it over: `Event` with the verdict as a number.
 #[repr(C)]
-#[derive(Clone, Copy)]
+#[derive(Clone, Copy, Debug, PartialEq, Eq)]
 pub struct FlatEvent {
     pub code: u32,
     pub tag: u32,
@@ -35,7 +38,7 @@ pub struct FlatEvent {
 
 // What a host says of a token, with its verdict as a number.
 #[repr(C)]
-#[derive(Clone, Copy)]
+#[derive(Clone, Copy, Debug, PartialEq, Eq)]
 pub struct FlatToken {
     pub verdict: u32,
     pub margin: u32,
@@ -70,10 +73,14 @@ fn wrong_verdict(flat: FlatEvent) -> bool
 }
 
 // The interface's own refusal of an event.
-pub fn refused_as(flat: FlatEvent) -> Option<u32>
-    ensures { result ≡ refused_as flat }
+pub fn refused_as(flat: FlatEvent) -> Option<NonZeroU32>
+    ensures { option_map non_zero_u32_get result ≡ refused_as flat }
 {
-    wrong_verdict(flat).then_some(WRONG_VERDICT)
+    if wrong_verdict(flat) {
+        NonZeroU32::new(WRONG_VERDICT)
+    } else {
+        None
+    }
 }
 
 // An event with a bit, and with what the host says of the token. A message carries no tag and names no timer.

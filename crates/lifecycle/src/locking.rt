@@ -2,7 +2,7 @@
 ghost use Rattle.std.specs.Prelude.{◌≡◌, not, ◌&&◌, cond, eqb};
 ghost use Rattle.effects.specs.ByEvent.{by_locking};
 
-use effects::{NO_ACTIONS, Transition, handled};
+use effects::{NO_ACTIONS, Transition, handled, order_if_on};
 use event::timers;
 use protocol::{Actions, Outcome, orders};
 use record::cleared;
@@ -12,10 +12,10 @@ use table::{codes, states};
 fn ending_order(order: u32, reported: bool, tag: u32) -> u32
     ensures { result ≡ cond (not reported && not (eqb tag 0)) order 0 }
 {
-    if !reported & (tag != 0) {
-        order
-    } else {
+    if reported {
         orders::NONE
+    } else {
+        order_if_on(order, tag)
     }
 }
 

@@ -11,7 +11,7 @@ pub mod refusals;
 use record::Connection;
 
 // What the host is to do: document 01's order sheet. The numbers are in `orders`.
-#[derive(Clone, Copy)]
+#[derive(Clone, Copy, Debug, PartialEq, Eq)]
 pub struct Actions {
     pub message: u32,
     // Orders to the drivers.
@@ -39,7 +39,7 @@ pub struct Actions {
 }
 
 // What became of an event.
-#[derive(Clone, Copy)]
+#[derive(Clone, Copy, Debug, PartialEq, Eq)]
 pub enum Answer {
     Handled,
     Ignored,
@@ -47,7 +47,7 @@ pub enum Answer {
 }
 
 // What a step gives back.
-#[derive(Clone, Copy)]
+#[derive(Clone, Copy, Debug, PartialEq, Eq)]
 pub struct Outcome {
     pub answer: Answer,
     pub connection: Connection,

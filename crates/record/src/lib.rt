@@ -9,7 +9,7 @@ use table::states;
 
 // The record of a connection. Its fields are numbers, since a host may lend any twelve: `well_formed` tests them. A tag is 0 when
 // its driver or timer is off, else the number of the handled event that started it.
-#[derive(Clone, Copy, Default)]
+#[derive(Clone, Copy, Debug, Default, PartialEq, Eq)]
 pub struct Connection {
     pub state: u32,
     // Document 01's ack flag: 1 while a block waits for its acknowledgement.

@@ -5,7 +5,7 @@
 ghost use Rattle.std.specs.Prelude.{◌≡◌, cond};
 ghost use Rattle.effects.specs.ByEvent.{by_event};
 
-use effects::{NO_ACTIONS, Transition, cancel_if_on, handled};
+use effects::{NO_ACTIONS, Transition, handled, order_if_on};
 use protocol::{Actions, Outcome, orders};
 use record::Connection;
 
@@ -23,7 +23,7 @@ pub fn prove_again(expired: bool, transition: Transition) -> Outcome
             message: if expired { orders::DAT } else { orders::NONE },
             prover: orders::START,
             hp: orders::START,
-            ack: cancel_if_on(transition.before.ack),
+            ack: order_if_on(orders::CANCEL, transition.before.ack),
             ..NO_ACTIONS
         },
     )
@@ -45,7 +45,7 @@ pub fn verify_again(asked: bool, transition: Transition) -> Outcome
             verifier: orders::START,
             hv: orders::START,
             ra: if asked { orders::CANCEL } else { orders::NONE },
-            ack: cancel_if_on(transition.before.ack),
+            ack: order_if_on(orders::CANCEL, transition.before.ack),
             ..NO_ACTIONS
         },
     )
@@ -67,15 +67,11 @@ pub fn expire_token(transition: Transition) -> Outcome
         },
         Actions {
             message: orders::DAT_EXPIRED,
-            verifier: if before.verifier != 0 {
-                orders::STOP
-            } else {
-                orders::NONE
-            },
+            verifier: order_if_on(orders::STOP, before.verifier),
             h: orders::START,
-            hv: cancel_if_on(before.verifier),
-            ra: cancel_if_on(before.ra),
-            ack: cancel_if_on(before.ack),
+            hv: order_if_on(orders::CANCEL, before.verifier),
+            ra: order_if_on(orders::CANCEL, before.ra),
+            ack: order_if_on(orders::CANCEL, before.ack),
             ..NO_ACTIONS
         },
     )

@@ -10,7 +10,7 @@ pub mod codes;
 pub mod states;
 
 // A cell of the table.
-#[derive(Clone, Copy)]
+#[derive(Clone, Copy, Debug, PartialEq, Eq)]
 enum Cell {
     // The state that follows.
     To(u32),

@@ -61,7 +61,7 @@ pub fn seconds_left(expiry: i64, now: i64, margin: u32) -> Result<i64, MarginToo
     if margin_too_large(margin) {
         return Err(MarginTooLarge);
     }
-    let early = margin as i64;
+    let early = i64::from(margin);
     let least = early - DAY;
     let most = early + DAY;
     if expiry < 0 {

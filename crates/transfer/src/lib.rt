@@ -6,7 +6,7 @@ ghost use Rattle.std.specs.Prelude.{◌≡◌};
 ghost use Rattle.protocol.specs.Advance.{flipped};
 ghost use Rattle.effects.specs.ByEvent.{by_event};
 
-use effects::{NO_ACTIONS, Transition, cancel_if_on, handled};
+use effects::{NO_ACTIONS, Transition, handled, order_if_on};
 use protocol::{Actions, Outcome, orders};
 use record::Connection;
 
@@ -75,7 +75,7 @@ pub fn receive_ack(transition: Transition) -> Outcome
             ..transition.moved()
         },
         Actions {
-            ack: cancel_if_on(before.ack),
+            ack: order_if_on(orders::CANCEL, before.ack),
             ..NO_ACTIONS
         },
     )

@@ -1,6 +1,8 @@
 -- `capi::menhotrac_step` meets its contract.
 use mathlib.Core.Path.{◌≡◌, ap, ◌∙◌}
 use Prim.Native.Nat.{ℕ}
+use Rattle.std.specs.Option.{option_map}
+use Rattle.std.specs.Int.NonZero.{non_zero_u32_get}
 use Rattle.std.specs.Prelude.{Option}
 use Rattle.connection.specs.Also.{result_also}
 use Rattle.record.specs.Numbers.{record_in}
@@ -22,7 +24,7 @@ module _ (s : After-step_flat-answer) where
   result also event = result_also also (record_in s.args.connection.now) (call_of event s.args.payload.now s.args.our_verifiers.now s.args.peer_provers.now s.args.peer_verifiers.now s.args.our_provers.now) s.args.cache.now
 
   -- That of the event as the host handed it over.
-  of_event : result s.refused_as.result s.into.result ≡ result (refused_as s.args.event) (event_of s.args.event)
+  of_event : result (option_map non_zero_u32_get s.refused_as.result) s.into.result ≡ result (refused_as s.args.event) (event_of s.args.event)
   of_event = λ i. result (s.refused_as.ensures i) (s.into.ensures i)
 
 pub returns : goal.returns

@@ -3,6 +3,8 @@ use mathlib.Core.Path.{◌≡◌, refl, sym, ap, ◌∙◌}
 use mathlib.Core.Bool.{Bool}
 use Prim.Native.Nat.{ℕ, ◌+◌, ◌<◌}
 use native.Mathlib.Omega.{arith}
+use Rattle.std.specs.Option.{option_map}
+use Rattle.std.specs.Int.NonZero.{non_zero_u32_get}
 use Rattle.std.specs.Prelude.{None, Some}
 use Rattle.record.specs.declared.Connection.{Connection}
 use Rattle.event.specs.declared.Input.{Input}
@@ -22,8 +24,8 @@ use Rattle.decision.proofs.decide.Goals as goal
 
 pub returns-in-Some : goal.returns-in-Some
 returns-in-Some c =
-    unmoved_written _ _ _ _ (decided_also c.args.also c.args.connection c.args.code c.args.input) (Some c.in-Some.fault) c.args.connection
-    (by_fault c.args.also c.args.connection c.args.code c.args.input c.in-Some.fault (sym c.lowest_fault.ensures ∙ c.in-Some.is))
+    unmoved_written _ _ _ _ (decided_also (option_map non_zero_u32_get c.args.also) c.args.connection c.args.code c.args.input) (Some c.in-Some.fault) c.args.connection
+    (by_fault (option_map non_zero_u32_get c.args.also) c.args.connection c.args.code c.args.input c.in-Some.fault (sym c.lowest_fault.ensures ∙ c.in-Some.is))
     c.unmoved.ensures.value
     refl
     c.unmoved.ensures.slots_after
@@ -40,9 +42,9 @@ none_is n = sym n.lowest_fault.ensures ∙ n.in_default.is
 pub returns-in_default-next_state : goal.returns-in_default-next_state
 returns-in_default-next_state c =
     let n = (goal.at.returns-in_default-next_state c).After-next_state in
-    unmoved_written _ _ _ _ (decided_also c.args.also c.args.connection c.args.code c.args.input) c.late_refusal-late.result c.args.connection
+    unmoved_written _ _ _ _ (decided_also (option_map non_zero_u32_get c.args.also) c.args.connection c.args.code c.args.input) c.late_refusal-late.result c.args.connection
     (rw c.late_refusal-late.ensures
-    (by_table c.args.also c.args.connection c.args.code c.args.input (none_is n) (sym (next_is n) ∙ c.in_default-next_state.is)))
+    (by_table (option_map non_zero_u32_get c.args.also) c.args.connection c.args.code c.args.input (none_is n) (sym (next_is n) ∙ c.in_default-next_state.is)))
     c.unmoved-in_default-next_state.ensures.value
     refl
     c.unmoved-in_default-next_state.ensures.slots_after
@@ -55,8 +57,8 @@ pub returns-in_default-checked_add : goal.returns-in_default-checked_add
 returns-in_default-checked_add c =
     let n = (goal.at.returns-in_default-checked_add c).After-next_state in
     let full : c.args.connection.handled ≡ 4294967295 = omega arith in
-    unmoved_written _ _ _ _ (decided_also c.args.also c.args.connection c.args.code c.args.input) (Some 8) c.args.connection
-    (by_number c.args.also c.args.connection c.args.code c.args.input (none_is n) c.in-Some-next_state.to (listed n _ c.in-Some-next_state.is) full)
+    unmoved_written _ _ _ _ (decided_also (option_map non_zero_u32_get c.args.also) c.args.connection c.args.code c.args.input) (Some 8) c.args.connection
+    (by_number (option_map non_zero_u32_get c.args.also) c.args.connection c.args.code c.args.input (none_is n) c.in-Some-next_state.to (listed n _ c.in-Some-next_state.is) full)
     c.unmoved-in_default-checked_add.ensures.value
     refl
     c.unmoved-in_default-checked_add.ensures.slots_after
@@ -66,8 +68,8 @@ returns-in-Some-late c =
     let n = (goal.at.returns-in-Some-late c).After-next_state in
     let fits = c.in-Some-checked_add.ensures.0 in
     let room : c.args.connection.handled ≡ 4294967295 → ⊥ = λ e. omega arith in
-    unmoved_written _ _ _ _ (decided_also c.args.also c.args.connection c.args.code c.args.input) (Some c.in-Some-late.refusal) c.args.connection
-    (by_late_fault c.args.also c.args.connection c.args.code c.args.input (none_is n) c.in-Some-next_state.to (listed n _ c.in-Some-next_state.is) room
+    unmoved_written _ _ _ _ (decided_also (option_map non_zero_u32_get c.args.also) c.args.connection c.args.code c.args.input) (Some c.in-Some-late.refusal) c.args.connection
+    (by_late_fault (option_map non_zero_u32_get c.args.also) c.args.connection c.args.code c.args.input (none_is n) c.in-Some-next_state.to (listed n _ c.in-Some-next_state.is) room
     c.in-Some-late.refusal (sym c.late_refusal-late.ensures ∙ c.in-Some-late.is))
     c.unmoved-in-Some-late.ensures.value
     refl
@@ -76,10 +78,10 @@ returns-in-Some-late c =
 -- The outcome of an event that is handled.
 handles : (n : After-checked_add) → n.late_refusal-late.result ≡ None → following (next_state n.args.connection n.args.code n.args.input) ≡ Some n.in-Some-next_state.to
     → refusal_numbered (lowest n.args.connection n.args.code n.args.input) ≡ None → n.args.connection.handled + 1 < 4294967296
-    → handled_to (next_state n.args.connection n.args.code n.args.input) n.args.connection n.args.code n.args.input ≡ decided_also n.args.also n.args.connection n.args.code n.args.input
+    → handled_to (next_state n.args.connection n.args.code n.args.input) n.args.connection n.args.code n.args.input ≡ decided_also (option_map non_zero_u32_get n.args.also) n.args.connection n.args.code n.args.input
 handles n late next none fits =
     let room : n.args.connection.handled ≡ 4294967295 → ⊥ = λ e. omega arith in
-    by_handling n.args.also n.args.connection n.args.code n.args.input none n.in-Some-next_state.to next room (sym n.late_refusal-late.ensures ∙ late)
+    by_handling (option_map non_zero_u32_get n.args.also) n.args.connection n.args.code n.args.input none n.in-Some-next_state.to next room (sym n.late_refusal-late.ensures ∙ late)
 
 -- An event with a number.
 abbrev numbered : Connection → Input → (to number : ℕ) → Transition
@@ -91,12 +93,12 @@ returns-then-to-eq-CLOSED_LOCKED c =
     let none = none_is at.After-next_state in
     let next = listed at.After-next_state _ c.in-Some-next_state.is in
     let to = c.in-Some-next_state.to in
-    handled_written _ _ _ _ (decided_also c.args.also c.args.connection c.args.code c.args.input) (next_state c.args.connection c.args.code c.args.input) c.args.connection c.args.code c.args.input
+    handled_written _ _ _ _ (decided_also (option_map non_zero_u32_get c.args.also) c.args.connection c.args.code c.args.input) (next_state c.args.connection c.args.code c.args.input) c.args.connection c.args.code c.args.input
     (handles at.After-checked_add c.in_default-late.is next none c.in-Some-checked_add.ensures.0)
     (as_written _ _ _ _ _
     (c.lock.ensures ∙
     ap (λ (n : ℕ). by_locking c.args.code (numbered c.args.connection c.args.input to n)) c.in-Some-checked_add.ensures.1 ∙
-    locks c.args.also c.args.connection c.args.code c.args.input none to next c.if-to-eq-CLOSED_LOCKED.true)
+    locks (option_map non_zero_u32_get c.args.also) c.args.connection c.args.code c.args.input none to next c.if-to-eq-CLOSED_LOCKED.true)
     c.put.ensures)
 
 pub returns : goal.returns
@@ -105,9 +107,9 @@ returns c =
     let none = none_is at.After-next_state in
     let next = listed at.After-next_state _ c.in-Some-next_state.is in
     let to = c.in-Some-next_state.to in
-    handled_written _ _ _ _ (decided_also c.args.also c.args.connection c.args.code c.args.input) (next_state c.args.connection c.args.code c.args.input) c.args.connection c.args.code c.args.input
+    handled_written _ _ _ _ (decided_also (option_map non_zero_u32_get c.args.also) c.args.connection c.args.code c.args.input) (next_state c.args.connection c.args.code c.args.input) c.args.connection c.args.code c.args.input
     (handles at.After-checked_add c.in_default-late.is next none c.in-Some-checked_add.ensures.0)
     (as_written _ _ _ _ _
     (ap (λ (n : ℕ). by_event (moving_code c.args.code) (numbered c.args.connection c.args.input to n)) c.in-Some-checked_add.ensures.1 ∙
-    moves c.args.also c.args.connection c.args.code c.args.input none to next c.if-to-eq-CLOSED_LOCKED.false)
+    moves (option_map non_zero_u32_get c.args.also) c.args.connection c.args.code c.args.input none to next c.if-to-eq-CLOSED_LOCKED.false)
     c.move_on.ensures)
