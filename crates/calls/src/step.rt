@@ -9,8 +9,8 @@ use std::io;
 use std::io::Write;
 use stdio::{Numbers, Runs};
 
-// Record and event are the numbers of the C interface, whose event derives neither `Debug` nor `PartialEq`.
-#[derive(Drop)]
+// Record and event are the numbers of the C interface.
+#[derive(Debug, PartialEq, Eq, Drop)]
 pub struct Row {
     record: [u32; 12],
     event: FlatEvent,

@@ -1,4 +1,4 @@
--- Document 01, "Refusal numbers": what a refusal is of an answer.
+-- Document 01, "Refusal numbers": the number that an answer has, and whether it is a refusal.
 use Rattle.std.specs.Prelude.{ℕ, Bool, true, false, Option, None, Some}
 use Rattle.protocol.specs.declared.Answer.{Answer}
 use Rattle.protocol.specs.declared.Answer.TheVariants.{Handled, Ignored, Refused}

@@ -1,4 +1,4 @@
-// The test whether a record is well formed, as document 01 lists it: the ranges of its fields, no tag above the number,
+// The test whether a record is well formed, as document 01 lists it and request #102 amends it: the ranges of its fields, no tag above the number,
 // and what each state asks.
 #![tactic(auto)]
 
