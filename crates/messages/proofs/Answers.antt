@@ -70,10 +70,3 @@ pub record Flattened (m : FlatMessage) (reading : Reading Message) (provers veri
   pub says : reading_by m provers verifiers ≡ reading
   pub counts : (m.provers ≤ 16) × (m.verifiers ≤ 16)
   pub known : Known m
-
-pub flattened : (m : FlatMessage) (c : Result Contents Refusal) (reading : Reading Message) (provers verifiers : List ℕ) → m ≡ flat_of c → contents_in c provers verifiers ≡ reading → KnownContents c →
-    Flattened m reading provers verifiers
-flattened m c reading provers verifiers e r k =
-    subst (λ (q : FlatMessage). Flattened q reading provers verifiers) (sym e)
-    (subst (λ (q : Reading Message). Flattened (flat_of c) q provers verifiers) r
-    record { numbers = numbers c provers verifiers; says = says c provers verifiers; counts = counts c k; known = known c k })
