@@ -4,7 +4,7 @@ ghost use Rattle.wire.specs.Lists.{padded};
 ghost use Rattle.fields.specs.Steps.{HelloCounts, HelloStep, Reads, fields_of, hello_in, inner_of};
 
 use crate::keys::misfit;
-use crate::{Contents, Held, Span, keys, schema};
+use crate::{Contents, Held, NO_BYTES, Span, keys, schema};
 use fault::Refusal;
 use wire::{Packed, Place};
 
@@ -29,8 +29,6 @@ const NOTHING_FOUND: Found = Found {
     provers: None,
     verifiers: None,
 };
-
-const NO_TOKEN: Span = Span { place: 0, size: 0 };
 
 // One field: its key, and then what the key announces.
 fn next_field(
@@ -99,7 +97,7 @@ fn read_hello(
         }
     }
     Ok(Held {
-        token: found.token.unwrap_or(NO_TOKEN),
+        token: found.token.unwrap_or(NO_BYTES),
         provers: found.provers.unwrap_or(0),
         verifiers: found.verifiers.unwrap_or(0),
     })

@@ -18,7 +18,11 @@ use fault::Refusal;
 use wire::Place;
 pub use wire::Span;
 
-// What a HELLO holds: where its token lies, and how many suites each list has.
+// Where an absent field of bytes lies.
+const NO_BYTES: Span = Span { place: 0, size: 0 };
+
+// What a HELLO holds: where its token lies, and how many suites each list has. The suites stand in two arrays that are lent, as the
+// C interface lends them.
 #[derive(Clone, Copy, Debug, PartialEq, Eq)]
 pub struct Held {
     pub token: Span,

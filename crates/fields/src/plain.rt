@@ -4,7 +4,7 @@ ghost use Rattle.fields.specs.Steps.{PlainKey, PlainStep, ReadsPlain, fields_of,
 
 use crate::keys::misfit;
 use crate::number::PlainNumber;
-use crate::{Contents, Span, keys, schema};
+use crate::{Contents, NO_BYTES, Span, keys, schema};
 use fault::Refusal;
 use wire::{Place, Varint};
 
@@ -21,8 +21,6 @@ struct Plain {
     part: Span,
     bit: u32,
 }
-
-const NO_PART: Span = Span { place: 0, size: 0 };
 
 // A field of a message below DATA: three of these have bytes, the others no field.
 fn part_field(
@@ -130,7 +128,7 @@ fn read_plain(message: PlainNumber, bytes: &[u8], start: usize) -> Result<Plain,
         }
     }
     Ok(Plain {
-        part: part.unwrap_or(NO_PART),
+        part: part.unwrap_or(NO_BYTES),
         bit: bit.unwrap_or(0),
     })
 }

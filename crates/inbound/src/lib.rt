@@ -30,7 +30,7 @@ pub struct Receipt {
     pub place: usize,
 }
 
-// The first entries of a list; none where it has not so many.
+// The first entries of a list; none where it has not so many. `outcome` does this with bytes: each is one call of std's `get`.
 fn first(list: &[u32], count: usize) -> &[u32]
     ensures { result.now ≡ first_entries count list.now }
 {

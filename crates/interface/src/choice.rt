@@ -6,7 +6,7 @@ ghost use Rattle.suites.specs.Numbers.{answer_of};
 use protocol::refusals;
 use suites::{Chosen, TooLong};
 
-// The number of its refusal, 0 for none.
+// The number of its refusal, 0 for none, as the C interface has it.
 pub fn refusal_in(choice: Result<Chosen, TooLong>) -> u32
     ensures { result ≡ (answer_of choice).refusal }
 {
@@ -16,7 +16,7 @@ pub fn refusal_in(choice: Result<Chosen, TooLong>) -> u32
     }
 }
 
-// Whether each suite was found, and its number.
+// Whether each suite was found, and its number, as the C interface has them.
 pub fn numbers_in(choice: Result<Chosen, TooLong>) -> [u32; 4]
     ensures { result ≡ chosen_of (answer_of choice) }
 {

@@ -5,7 +5,8 @@ ghost use Rattle.token.specs.Numbers.{answer_of};
 use protocol::refusals;
 use token::MarginTooLarge;
 
-// The number of its refusal, 0 for none.
+// The number of its refusal, 0 for none, as the C interface has it. One function for this and `choice::refusal_in` would have to be
+// generic over the error, and its promise over both definitions.
 pub fn refusal_in(time: Result<i64, MarginTooLarge>) -> u32
     ensures { result ≡ (answer_of time).refusal }
 {
@@ -15,7 +16,7 @@ pub fn refusal_in(time: Result<i64, MarginTooLarge>) -> u32
     }
 }
 
-// The seconds, 0 where they are refused.
+// The seconds, 0 where they are refused, as the C interface has them.
 pub fn seconds_in(time: Result<i64, MarginTooLarge>) -> i64
     ensures { result ≡ (answer_of time).seconds }
 {

@@ -10,7 +10,8 @@ use fault::Refusal;
 use fields::{Contents, schema};
 
 // A refusal's number, 0 for none, and then the message's number, its bit, how many suites, and where the token or payload
-// lies. What a message does not carry is 0; where the bytes are refused, all but the refusal is.
+// lies. What a message does not carry is 0; where the bytes are refused, all but the refusal is. The C interface has this type, and a
+// host in C can make a value of it with any numbers: so `read_flat` promises the bound of the counts, and not the type.
 #[repr(C)]
 #[derive(Clone, Copy, Debug, PartialEq, Eq)]
 pub struct FlatMessage {

@@ -9,7 +9,7 @@ use fault::Refusal;
 
 const MAX_ENTRIES: usize = 16;
 
-// How many suites were read, with the place after the list.
+// How many suites were read, with the place after the list. The suites stand in an array that is lent, as the C interface lends it.
 #[derive(Clone, Copy, Debug, PartialEq, Eq)]
 pub struct Packed {
     pub count: usize,
