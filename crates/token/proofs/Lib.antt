@@ -1,3 +1,4 @@
+pub mod Difference
 pub mod Good
 pub mod NoMargin
 pub mod Numbers
