@@ -159,7 +159,7 @@ fn carries_payload(code: u32) -> bool
     )
 }
 
-// A payload's length, 0 if it is too long.
+// A payload's length; one that is too long counts as 0, by `short_length`.
 fn short_len(len: usize) -> u32
     ensures { result ≡ short_length limits len }
 {

@@ -38,7 +38,7 @@ pub struct Actions {
     pub payload_len: u32,
 }
 
-// What became of an event.
+// What became of an event. It has three cases, where a `Result` has two.
 #[derive(Clone, Copy, Debug, PartialEq, Eq)]
 pub enum Answer {
     Handled,
