@@ -15,7 +15,7 @@ use token::Token;
 // A code that no event has: a step with it is refused. The C interface gives every number an event, so it has a code for each.
 const NO_EVENT: u32 = 24;
 
-// The code of the event that a message is, by the message's number.
+// The code of the event that a message is, by the message's number. It takes and gives numbers, as the C interface does.
 pub fn code_of(number: u32) -> u32
     ensures { result ≡ code_of number }
 {

@@ -1,5 +1,5 @@
-// The functions of `capi` as exports of the archive that hosts in C and Rust link. Each hands its arguments on, and promises what `capi` promises:
-// an export stands only in a static library, and no crate can rest on one.
+// The functions of `capi` as exports of the archive that hosts in C and Rust link. Each hands its arguments on, and promises what
+// `capi` promises: an export stands only in a static library, and no crate can rest on one.
 #![tactic(auto)]
 
 ghost use Rattle.std.specs.Prelude.{◌≡◌, ◌+◌, ◌≤◌, length};

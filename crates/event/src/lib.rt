@@ -56,12 +56,12 @@ pub struct Input {
     pub bit: u32,
     // Those of a good token.
     pub seconds: Option<u32>,
+    // This fault, the payload's and the lists' are tests of their own, as the papers list them: with a Result in its place each reader of
+    // the value would first take apart what is refused before it is read.
     pub margin_too_large: bool,
-    // As a Result the length would still be 0 where an event that carries no payload is given one that is too long.
     pub payload_len: u32,
     pub payload_too_long: bool,
     pub cache_too_short: bool,
-    // As one Result each reader of a suite would first take apart a choice that the faults have refused.
     pub list_too_long: bool,
     pub suites: Chosen,
 }

@@ -1,4 +1,4 @@
-// The names of the handshake timers in a handshake timeout.
+// The names of the handshake timers in a handshake timeout. They are numbers and no enum, since the step takes any number as a name.
 
 pub const H: u32 = 0;
 

@@ -66,7 +66,8 @@ fn next_field(
     Err(misfit(expected))
 }
 
-// All fields from `start` to the end of the bytes, into lists that hold zeros.
+// All fields from `start` to the end of the bytes, into lists that hold zeros. The loop goes over places: where the next field stands
+// is known when this one is read.
 fn read_hello(
     bytes: &[u8],
     start: usize,

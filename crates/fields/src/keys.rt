@@ -1,4 +1,4 @@
-// The keys that fit, and why another does not.
+// The keys that fit, and why another does not. They are numbers and no enum, since bytes may hold any key.
 ghost use Rattle.std.specs.Prelude.{◌≡◌, cond};
 ghost use Rattle.fault.specs.declared.Refusal.TheVariants as refusal;
 

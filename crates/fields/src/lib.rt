@@ -18,7 +18,7 @@ use fault::Refusal;
 use wire::Place;
 pub use wire::Span;
 
-// Where an absent field of bytes lies.
+// Where an absent field of bytes lies: it counts as 0, as an absent bit and an absent list do, by the definition and in the C interface.
 const NO_BYTES: Span = Span { place: 0, size: 0 };
 
 // What a HELLO holds: where its token lies, and how many suites each list has. The suites stand in two arrays that are lent, as the

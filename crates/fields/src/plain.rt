@@ -106,8 +106,8 @@ fn next_field(
     Ok(field)
 }
 
-// All fields from `start` to the end of the bytes. Bytes and bit are kept apart: a struct of both would have padding, which
-// is copied in every turn.
+// All fields from `start` to the end of the bytes, from place to place as in a HELLO. Bytes and bit are kept apart: a struct of both
+// would have padding, which is copied in every turn.
 fn read_plain(message: PlainNumber, bytes: &[u8], start: usize) -> Result<Plain, Refusal>
     ensures { plain_in message.number result ≡ fields_of message.number bytes.now start }
 {

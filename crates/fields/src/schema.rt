@@ -1,5 +1,5 @@
-// The numbers of the messages and of their fields, and the wire types. `protocol::orders` has the messages too, as the order sheet
-// names them: what reads bytes rests on nothing of the step.
+// The numbers of the messages and of their fields, and the wire types, as bytes hold them; the enum is `messages::Message`.
+// `protocol::orders` has the messages too, as the order sheet names them: what reads bytes rests on nothing of the step.
 pub const HELLO: u32 = 1;
 
 pub const CLOSE: u32 = 2;

@@ -15,7 +15,7 @@ use std::num::NonZeroU32;
 
 // What the host gives with the bytes: what it says of the token, what its interface refuses of the token, and its own lists.
 // The refusal is given for a message with a token where the step refuses nothing.
-#[derive(Clone, Copy, Debug)]
+#[derive(Clone, Copy, Debug, PartialEq, Eq)]
 pub struct Given<'a> {
     pub token: Token,
     pub token_refusal: Option<NonZeroU32>,
@@ -23,7 +23,7 @@ pub struct Given<'a> {
     pub our_provers: &'a [u32],
 }
 
-// The answer, and where the token or payload lies in the bytes.
+// The answer, and where the token or payload lies in the bytes; a message without one, and bytes that are refused, have 0, by `place_in`.
 #[derive(Clone, Copy, Debug, PartialEq, Eq)]
 pub struct Receipt {
     pub answer: Answer,

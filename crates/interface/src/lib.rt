@@ -83,7 +83,8 @@ pub fn refused_as(flat: FlatEvent) -> Option<NonZeroU32>
     }
 }
 
-// An event with a bit, and with what the host says of the token. A message carries no tag and names no timer.
+// An event with a bit, and with what the host says of the token. A message carries no tag and names no timer. A host in C needs it as
+// numbers; `arrival::event_of` makes it as an `Event`.
 pub fn event_in(code: u32, bit: u32, token: FlatToken) -> FlatEvent
     ensures { result ≡ flat_event_with code bit token }
 {

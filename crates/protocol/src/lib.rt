@@ -10,7 +10,8 @@ pub mod refusals;
 
 use record::Connection;
 
-// What the host is to do: document 01's order sheet. The numbers are in `orders`.
+// What the host is to do: document 01's order sheet. The numbers are in `orders`. A slot that says nothing holds 0, since any sixteen numbers
+// are a sheet that a host in C may hold.
 #[derive(Clone, Copy, Debug, PartialEq, Eq)]
 pub struct Actions {
     pub message: u32,

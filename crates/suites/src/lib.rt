@@ -21,7 +21,7 @@ pub struct Chosen {
 }
 
 // The suites that either end offers, by the order in which it prefers them.
-#[derive(Clone, Copy, Debug)]
+#[derive(Clone, Copy, Debug, PartialEq, Eq)]
 pub struct Lists<'a> {
     pub our_verifiers: &'a [u32],
     pub peer_provers: &'a [u32],
@@ -60,7 +60,7 @@ impl Lists<'_> {
 // The place of the first entry of `verifiers` found anywhere in `provers`, or the number of verifiers if none is found.
 // A suite is compared with the provers in groups of eight, of which the compiler makes vector instructions where it can,
 // and with those behind the last group one by one. An Option of the suite as its answer was tried, and lists of sixteen
-// entries took 12 in 100 more instructions.
+// entries took an eighth more instructions.
 fn first_common(verifiers: &[u32], provers: &[u32]) -> usize
     ensures { found_of (slice_get verifiers.now result) ≡ first_found verifiers.now provers.now }
 {

@@ -74,7 +74,7 @@ fn bad_token(state: u32) -> Cell
     }
 }
 
-// Where the condition holds.
+// Where the condition holds. Each state has its row, with the events that lock in every open state among them.
 fn when_held(state: u32, code: u32) -> Cell
     ensures { result ≡ cell_of (cell state code true) }
 {

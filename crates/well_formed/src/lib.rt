@@ -1,5 +1,5 @@
-// The test whether a record is well formed, as document 01 lists it and request #102 amends it: the ranges of its fields, no tag above the number,
-// and what each state asks.
+// The test whether a record is well formed, as document 01 lists it and request #102 amends it: the ranges of its fields, no tag
+// above the number, and what each state asks.
 #![tactic(auto)]
 
 ghost use Rattle.std.specs.Prelude.{◌≡◌};

@@ -17,7 +17,7 @@ pub struct Packed {
 }
 
 // The entries from `start` to the end of the bytes, written to `suites`, which holds zeros. The loop goes over places: where
-// the next entry stands is known when this one is read.
+// the next entry stands is known when this one is read. A seventeenth entry has a refusal of its own, so they are counted.
 fn entries(bytes: &[u8], start: usize, suites: &mut [u32; 16]) -> Result<Packed, Refusal>
     requires { suites.old ≡ padded [] }
     ensures suites_after { packed_of result suites.new ≡ list_from bytes.now start }
