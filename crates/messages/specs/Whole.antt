@@ -1,4 +1,5 @@
--- What the private functions answer. No public contract rests on this file.
+-- What the private functions answer, and the numbers of contents (`flat_of`), which a `From` promises. No other public contract rests on
+-- this file.
 use Rattle.std.specs.Prelude.{◌≡◌, ℕ, ◌≤◌, cond, List, [], get_or, Result, Ok, Err}
 use Rattle.fault.specs.Fault.{Reading, read_as, refused}
 use Rattle.fault.specs.Refusals.{refusal_number}

@@ -30,24 +30,23 @@ pub enum Message {
     Ack(u32),
 }
 
-// The enum of what a message holds. The number of one without lists is one of eight; of another, `MessageAs` promises nothing.
-impl From<Contents> for Message {
-    ghost from_gives = { λ contents message. MessageAs contents message };
-
-    fn from(contents: Contents) -> Message {
-        match contents {
-            Contents::Hello(held) => Message::Hello(held),
-            Contents::Plain { number, part, bit } => match number {
-                schema::CLOSE => Message::Close,
-                schema::DAT_EXPIRED => Message::DatExpired,
-                schema::DAT => Message::Dat(part),
-                schema::RE_RA => Message::ReRa,
-                schema::RA_PROVER => Message::RaProver(part),
-                schema::RA_VERIFIER => Message::RaVerifier(part),
-                schema::DATA => Message::Data { payload: part, bit },
-                _ => Message::Ack(bit),
-            },
-        }
+// The enum of what a message holds, whose number, without lists, is one of eight. It is no `From`, which anybody could call with
+// another number, and of which it promises nothing.
+fn message_of(contents: Contents) -> Message
+    ensures { MessageAs contents result }
+{
+    match contents {
+        Contents::Hello(held) => Message::Hello(held),
+        Contents::Plain { number, part, bit } => match number {
+            schema::CLOSE => Message::Close,
+            schema::DAT_EXPIRED => Message::DatExpired,
+            schema::DAT => Message::Dat(part),
+            schema::RE_RA => Message::ReRa,
+            schema::RA_PROVER => Message::RaProver(part),
+            schema::RA_VERIFIER => Message::RaVerifier(part),
+            schema::DATA => Message::Data { payload: part, bit },
+            _ => Message::Ack(bit),
+        },
     }
 }
 
@@ -63,7 +62,7 @@ pub fn read(
     ensures counts_fit { CountsFit result }
 {
     let contents = contents_of(bytes, provers, verifiers)?;
-    Ok(Message::from(contents))
+    Ok(message_of(contents))
 }
 
 // The token or payload of a message: a part of the bytes that it was read from.

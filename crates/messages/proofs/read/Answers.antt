@@ -6,4 +6,4 @@ use Rattle.messages.proofs.read.Goals as goal
 pub returns-clause-reads : goal.returns-clause-reads
 returns-clause-reads c =
     let r = c.in_ok-contents.ensures in
-    (c.from.ensures r.known).0 _ _ ∙ ap (mapped carried) r.reads ∙ carried_reading _
+    (c.message_of.ensures r.known).0 _ _ ∙ ap (mapped carried) r.reads ∙ carried_reading _
