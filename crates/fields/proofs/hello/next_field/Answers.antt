@@ -1,10 +1,12 @@
-use Rattle.std.proofs.Common.{◌≡◌, refl, sym, ap, ◌∙◌, false, Ok, Err}
+use Rattle.std.proofs.Common.{◌≡◌, refl, sym, ◌∙◌, false, Ok, Err}
 use Rattle.fault.proofs.Passed.{passed_on}
 use Rattle.fields.specs.Schema.{Bytes, Provers, Verifiers, form_in}
-use Rattle.fields.specs.Fields.{is_read, marks}
+use Rattle.fields.specs.Fields.{marks}
+use Rattle.fields.specs.declared.hello.Field.TheVariants as field
 use Rattle.fields.proofs.Content.{bytes_content, provers_content, verifiers_content}
+use Rattle.fields.proofs.Fitting.{hello_met}
 use Rattle.fields.proofs.FittingKeys.{hello_refuses, is_met}
-use Rattle.fields.proofs.OneField.{key_faulty, key_met, key_refused}
+use Rattle.fields.proofs.OneField.{key_faulty, key_refused}
 use Rattle.fields.proofs.hello.next_field.Goals as goal
 
 pub returns-in_err-key : goal.returns-in_err-key
@@ -16,47 +18,38 @@ returns-in_err-key c =
 pub returns-in_err-token : goal.returns-in_err-token
 unfolding form_in
 returns-in_err-token c =
-    let a = c.args in
     let t = is_met _ 10 c.is_some-has_token.result c.if-key-has_token.true in
-    rw (passed_on _ c.from_residual-in_err-token.ensures.1)
-    (λ f m. key_met 1 a.place.bytes.now a.place.at f a.provers.now a.verifiers.now _ _ (sym c.in_ok-key.ensures) 10 t.0 Bytes refl refl refl (ap (is_read Bytes) m ∙ sym c.is_some-has_token.ensures ∙ t.1) _ _ _ (bytes_content _ _ f _ _ (Err _) c.in_err-token.ensures))
+    rw (passed_on _ c.from_residual-in_err-token.ensures.1) (hello_met _ _ _ _ (sym c.in_ok-key.ensures) _ Bytes 10 t.0 refl refl refl (sym c.is_some-has_token.ensures ∙ t.1) (Err _) _ _ _ _ (λ f. bytes_content _ _ f _ _ (Err _) c.in_err-token.ensures))
 
 pub returns-then-key-has_token : goal.returns-then-key-has_token
 unfolding form_in
 returns-then-key-has_token c =
-    let a = c.args in
     let t = is_met _ 10 c.is_some-has_token.result c.if-key-has_token.true in
-    λ f m. key_met 1 a.place.bytes.now a.place.at f a.provers.now a.verifiers.now _ _ (sym c.in_ok-key.ensures) 10 t.0 Bytes refl refl refl (ap (is_read Bytes) m ∙ sym c.is_some-has_token.ensures ∙ t.1) _ _ _ (bytes_content _ _ f _ _ (Ok _) c.in_ok-token.ensures)
+    hello_met _ _ _ _ (sym c.in_ok-key.ensures) _ Bytes 10 t.0 refl refl refl (sym c.is_some-has_token.ensures ∙ t.1) (Ok (field.Token _)) _ _ _ _ (λ f. bytes_content _ _ f _ _ (Ok _) c.in_ok-token.ensures)
 
 pub returns-in_err-list : goal.returns-in_err-list
 unfolding form_in
 returns-in_err-list c =
-    let a = c.args in
     let t = is_met _ 18 c.is_some-has_provers.result c.if-key-has_provers.true in
-    rw (passed_on _ c.from_residual-in_err-list.ensures.1)
-    (λ f m. key_met 1 a.place.bytes.now a.place.at f a.provers.now a.verifiers.now _ _ (sym c.in_ok-key.ensures) 18 t.0 Provers refl refl refl (ap (is_read Provers) m ∙ sym c.is_some-has_provers.ensures ∙ t.1) _ _ _ (provers_content _ _ f _ _ _ (Err _) c.in_err-list.ensures.suites_after c.in_err-list.ensures.stored))
+    rw (passed_on _ c.from_residual-in_err-list.ensures.1) (hello_met _ _ _ _ (sym c.in_ok-key.ensures) _ Provers 18 t.0 refl refl refl (sym c.is_some-has_provers.ensures ∙ t.1) (Err _) _ _ _ _ (λ f. provers_content _ _ f _ _ _ (Err _) c.in_err-list.ensures.suites_after c.in_err-list.ensures.stored))
 
 pub returns-then-key-has_provers : goal.returns-then-key-has_provers
 unfolding form_in
 returns-then-key-has_provers c =
-    let a = c.args in
     let t = is_met _ 18 c.is_some-has_provers.result c.if-key-has_provers.true in
-    λ f m. key_met 1 a.place.bytes.now a.place.at f a.provers.now a.verifiers.now _ _ (sym c.in_ok-key.ensures) 18 t.0 Provers refl refl refl (ap (is_read Provers) m ∙ sym c.is_some-has_provers.ensures ∙ t.1) _ _ _ (provers_content _ _ f _ _ _ (Ok _) c.in_ok-list.ensures.suites_after c.in_ok-list.ensures.stored)
+    hello_met _ _ _ _ (sym c.in_ok-key.ensures) _ Provers 18 t.0 refl refl refl (sym c.is_some-has_provers.ensures ∙ t.1) (Ok (field.Provers _)) _ _ _ _ (λ f. provers_content _ _ f _ _ _ (Ok _) c.in_ok-list.ensures.suites_after c.in_ok-list.ensures.stored)
 
 pub returns-in_err-list-2 : goal.returns-in_err-list-2
 unfolding form_in
 returns-in_err-list-2 c =
-    let a = c.args in
     let t = is_met _ 26 c.is_some-has_verifiers.result c.if-key-has_verifiers.true in
-    rw (passed_on _ c.from_residual-in_err-list-2.ensures.1)
-    (λ f m. key_met 1 a.place.bytes.now a.place.at f a.provers.now a.verifiers.now _ _ (sym c.in_ok-key.ensures) 26 t.0 Verifiers refl refl refl (ap (is_read Verifiers) m ∙ sym c.is_some-has_verifiers.ensures ∙ t.1) _ _ _ (verifiers_content _ _ f _ _ _ (Err _) c.in_err-list-2.ensures.suites_after c.in_err-list-2.ensures.stored))
+    rw (passed_on _ c.from_residual-in_err-list-2.ensures.1) (hello_met _ _ _ _ (sym c.in_ok-key.ensures) _ Verifiers 26 t.0 refl refl refl (sym c.is_some-has_verifiers.ensures ∙ t.1) (Err _) _ _ _ _ (λ f. verifiers_content _ _ f _ _ _ (Err _) c.in_err-list-2.ensures.suites_after c.in_err-list-2.ensures.stored))
 
 pub returns-then-key-has_verifiers : goal.returns-then-key-has_verifiers
 unfolding form_in
 returns-then-key-has_verifiers c =
-    let a = c.args in
     let t = is_met _ 26 c.is_some-has_verifiers.result c.if-key-has_verifiers.true in
-    λ f m. key_met 1 a.place.bytes.now a.place.at f a.provers.now a.verifiers.now _ _ (sym c.in_ok-key.ensures) 26 t.0 Verifiers refl refl refl (ap (is_read Verifiers) m ∙ sym c.is_some-has_verifiers.ensures ∙ t.1) _ _ _ (verifiers_content _ _ f _ _ _ (Ok _) c.in_ok-list-2.ensures.suites_after c.in_ok-list-2.ensures.stored)
+    hello_met _ _ _ _ (sym c.in_ok-key.ensures) _ Verifiers 26 t.0 refl refl refl (sym c.is_some-has_verifiers.ensures ∙ t.1) (Ok (field.Verifiers _)) _ _ _ _ (λ f. verifiers_content _ _ f _ _ _ (Ok _) c.in_ok-list-2.ensures.suites_after c.in_ok-list-2.ensures.stored)
 
 pub returns : goal.returns
 returns c =
