@@ -1,21 +1,21 @@
 // Rows `step`: one call of the step.
 use crate::lists::Lists;
-use arrayvec::ArrayVec;
 use capi::menhotrac_step;
 use connection::{Actions, part};
 use interface::FlatEvent;
-use scan::{BYTES, Group, Groups};
+use scan::{Group, Groups};
 use std::io;
 use std::io::Write;
 use stdio::{Numbers, Runs};
 
-// Record and event are the numbers of the C interface.
-#[derive(Debug, PartialEq, Eq, Drop)]
-pub struct Row {
+// Record and event are the numbers of the C interface. Payload and cache lie in lent buffers, so that a row is small and can be
+// handed on.
+#[derive(Debug, Drop)]
+pub struct Row<'a> {
     record: [u32; 12],
     event: FlatEvent,
-    payload: ArrayVec<u8, BYTES>,
-    cache: ArrayVec<u8, BYTES>,
+    payload: &'a [u8],
+    cache: &'a mut [u8],
     lists: Lists,
 }
 
@@ -35,38 +35,54 @@ fn event_in(group: Group<'_>) -> Option<FlatEvent> {
     items.next().is_none().then_some(event)
 }
 
-impl Row {
-    // What follows the word; `None` where it is not understood.
-    pub fn read(text: &[u8]) -> Option<Row> {
+impl<'a> Row<'a> {
+    // What follows the word, its bytes in two buffers; `None` where it is not understood.
+    pub fn read(text: &[u8], payload: &'a mut [u8], cache: &'a mut [u8]) -> Option<Row<'a>> {
         let mut groups = Groups::new(text);
         let row = Row {
             record: groups.next()?.numbers()?.into_inner().ok()?,
             event: event_in(groups.next()?)?,
-            payload: groups.next()?.bytes()?,
-            cache: groups.next()?.bytes()?,
+            payload: groups.next()?.bytes(payload)?,
+            cache: groups.next()?.bytes(cache)?,
             lists: Lists::read(&mut groups)?,
         };
         groups.next().is_none().then_some(row)
     }
 
     // The step changes record and cache.
-    pub fn answer<W: Write>(mut self, out: &mut W) -> io::Result<()> {
+    pub fn answer<W: Write>(self, out: &mut W) -> io::Result<()> {
+        let Row {
+            mut record,
+            event,
+            payload,
+            cache,
+            lists,
+        } = self;
         let mut actions = [0; 16];
         let answer = menhotrac_step(
-            &mut self.record,
-            self.event,
-            self.payload.as_slice(),
-            self.cache.as_mut_slice(),
+            &mut record,
+            event,
+            payload,
+            cache,
             &mut actions,
-            self.lists.our_verifiers.as_slice(),
-            self.lists.peer_provers.as_slice(),
-            self.lists.peer_verifiers.as_slice(),
-            self.lists.our_provers.as_slice(),
+            lists.our_verifiers.as_slice(),
+            lists.peer_provers.as_slice(),
+            lists.peer_verifiers.as_slice(),
+            lists.our_provers.as_slice(),
         );
-        let cache = self.cache.as_slice();
-        let sent = part(Actions::from(&actions), self.payload.as_slice(), cache);
-        let record = Numbers(&self.record);
-        write!(out, "step {answer} ;{record} ;{}", Numbers(&actions))?;
-        writeln!(out, " ;{} ;{}", Runs(sent), Runs(cache))
+        write!(out, "step {answer} ;{}", Numbers(&record))?;
+        show(out, &actions, payload, cache)
     }
+}
+
+// The actions of a step, the payload part that they name, and the cache after it.
+fn show<'a, W: Write>(
+    out: &mut W,
+    actions: &[u32; 16],
+    payload: &'a [u8],
+    cache: &'a [u8],
+) -> io::Result<()> {
+    let sent = part(Actions::from(actions), payload, cache);
+    write!(out, " ;{} ;{}", Numbers(actions), Runs(sent))?;
+    writeln!(out, " ;{}", Runs(cache))
 }

@@ -1,15 +1,21 @@
 // Lines of worked cases. A line is copied, or it is a row, which asks the library and is answered.
-use crate::row::Row;
+use crate::row;
+use crate::row::Buffers;
 use std::io;
 use std::io::Write;
 
 // Answers the line that has a number.
-pub(crate) fn answer<W: Write>(out: &mut W, number: u64, line: &[u8]) -> io::Result<()> {
+pub(crate) fn answer<W: Write>(
+    out: &mut W,
+    number: u64,
+    line: &[u8],
+    buffers: &mut Buffers,
+) -> io::Result<()> {
     if let [] | [b'#', ..] = line {
         return copy(out, line);
     }
-    match Row::read(line) {
-        Some(row) => row.answer(out),
+    match row::answer(out, line, buffers) {
+        Some(answered) => answered,
         None => refuse(out, number),
     }
 }

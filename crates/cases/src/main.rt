@@ -6,6 +6,7 @@ mod lines;
 mod row;
 
 use crate::lines::{answer, refuse};
+use crate::row::EMPTY;
 use std::io;
 use stdio::{TooLong, read_line};
 
@@ -17,10 +18,11 @@ fn main(rt: HostRuntime) -> io::Result<()> {
     let mut input = rt.stdin();
     let mut out = rt.stdout();
     let mut line = [0; LINE];
+    let mut buffers = EMPTY;
     for number in 1..=u64::MAX {
         match read_line(&mut input, &mut line)? {
             None => break,
-            Some(Ok(len)) => answer(&mut out, number, &line[..len])?,
+            Some(Ok(len)) => answer(&mut out, number, &line[..len], &mut buffers)?,
             Some(Err(TooLong)) => refuse(&mut out, number)?,
         }
     }

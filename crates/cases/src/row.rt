@@ -1,37 +1,35 @@
 // Rows, by their words.
 use calls::{choice, step};
 use queries::{message, seconds};
-use scan::split_word;
+use scan::{BYTES, split_word};
 use std::io;
 use std::io::Write;
 
+// Room for the bytes of a row, of which a step has two groups. It is made once, and not for every row.
 #[derive(Drop)]
-pub(crate) enum Row {
-    Seconds(seconds::Row),
-    Suites(choice::Row),
-    Message(message::Row),
-    Step(step::Row),
+pub(crate) struct Buffers {
+    first: [u8; BYTES],
+    second: [u8; BYTES],
 }
 
-impl Row {
-    // The row that a line is; `None` where it is not understood.
-    pub(crate) fn read(line: &[u8]) -> Option<Row> {
-        let (word, row) = split_word(line);
-        match word {
-            b"seconds" => seconds::Row::read(row).map(Row::Seconds),
-            b"suites" => choice::Row::read(row).map(Row::Suites),
-            b"message" => message::Row::read(row).map(Row::Message),
-            b"step" => step::Row::read(row).map(Row::Step),
-            _ => None,
-        }
-    }
+pub(crate) const EMPTY: Buffers = Buffers {
+    first: [0; BYTES],
+    second: [0; BYTES],
+};
 
-    pub(crate) fn answer<W: Write>(self, out: &mut W) -> io::Result<()> {
-        match self {
-            Row::Seconds(row) => row.answer(out),
-            Row::Suites(row) => row.answer(out),
-            Row::Message(row) => row.answer(out),
-            Row::Step(row) => row.answer(out),
-        }
+// Answers the row that a line is; `None` where it is not understood. A row is answered where it is read, since bytes are understood
+// in a lent buffer, and a row that owned them would be moved with all its room.
+pub(crate) fn answer<W: Write>(
+    out: &mut W,
+    line: &[u8],
+    buffers: &mut Buffers,
+) -> Option<io::Result<()>> {
+    let (word, row) = split_word(line);
+    match word {
+        b"seconds" => Some(seconds::Row::read(row)?.answer(out)),
+        b"suites" => Some(choice::Row::read(row)?.answer(out)),
+        b"message" => Some(message::Row::read(row, &mut buffers.first)?.answer(out)),
+        b"step" => Some(step::Row::read(row, &mut buffers.first, &mut buffers.second)?.answer(out)),
+        _ => None,
     }
 }

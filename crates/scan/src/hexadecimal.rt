@@ -1,11 +1,10 @@
 // Bytes in hexadecimal, two digits a byte, and as COUNT*BYTE.
-ghost use Rattle.std.specs.Prelude.{◌<◌, IfSome};
+ghost use Rattle.std.specs.Prelude.{◌<◌, ◌≤◌, IfSome, length};
 
 use crate::decimal::parse;
 use crate::row::Group;
-use arrayvec::ArrayVec;
 
-// The most bytes of a group that are understood.
+// The most bytes of a group of a row. A buffer of another size has room for as many as its own.
 pub const BYTES: usize = 32_768;
 
 // The value of a hexadecimal digit in lower case; `to_digit` of `char` takes upper case too.
@@ -23,34 +22,42 @@ fn pair(high: u8, low: u8) -> Option<u8> {
     Some(digit(high)? * 16 + digit(low)?)
 }
 
-// Appends the bytes of digits, of which there must be an even number.
-fn append_digits(bytes: &mut ArrayVec<u8, BYTES>, digits: &[u8]) -> Option<()> {
+// Writes the bytes of digits, of which there must be an even number, and gives how many they are.
+fn write_digits(room: &mut [u8], digits: &[u8]) -> Option<usize>
+    ensures { IfSome result (λ count. count ≤ length room.old) }
+{
     let (pairs, odd) = digits.as_chunks::<2>();
-    for [high, low] in pairs {
-        bytes.try_push(pair(*high, *low)?).ok()?;
+    if !odd.is_empty() || pairs.len() > room.len() {
+        return None;
     }
-    odd.is_empty().then_some(())
+    for (byte, [high, low]) in room.iter_mut().zip(pairs) {
+        *byte = pair(*high, *low)?;
+    }
+    Some(pairs.len())
 }
 
-// Appends the bytes of a piece: COUNT*BYTE, or digits.
-fn append_piece(bytes: &mut ArrayVec<u8, BYTES>, piece: &[u8]) -> Option<()> {
+// Writes the bytes of a piece, COUNT*BYTE or digits, and gives how many they are.
+fn write_piece(room: &mut [u8], piece: &[u8]) -> Option<usize>
+    ensures { IfSome result (λ count. count ≤ length room.old) }
+{
     let [count @ .., b'*', high, low] = piece else {
-        return append_digits(bytes, piece);
+        return write_digits(room, piece);
     };
     let byte = pair(*high, *low)?;
-    for _ in 0..parse::<u32>(count)? {
-        bytes.try_push(byte).ok()?;
-    }
-    Some(())
+    let count = parse::<u32>(count)? as usize;
+    room.get_mut(..count)?.fill(byte);
+    Some(count)
 }
 
 impl Group<'_> {
-    // The bytes of the pieces, one after the other.
-    pub fn bytes(self) -> Option<ArrayVec<u8, BYTES>> {
-        let mut bytes = ArrayVec::new();
+    // The bytes of the pieces, one after the other, in a buffer that is lent, if it has room for all.
+    pub fn bytes(self, buffer: &mut [u8]) -> Option<&mut [u8]>
+        ensures { IfSome result (λ bytes. length bytes.now ≤ length buffer.old) }
+    {
+        let mut len: usize = 0;
         for piece in self.items() {
-            append_piece(&mut bytes, piece)?;
+            len = len.checked_add(write_piece(buffer.get_mut(len..)?, piece)?)?;
         }
-        Some(bytes)
+        buffer.get_mut(..len)
     }
 }
