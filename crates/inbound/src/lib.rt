@@ -34,7 +34,7 @@ pub struct Receipt {
 fn first(list: &[u32], count: usize) -> &[u32]
     ensures { result.now ≡ first_entries count list.now }
 {
-    list.get(..count).unwrap_or(&[])
+    list.get(..count).unwrap_or(&list[..0])
 }
 
 // Reads a message and steps with the event that it is. Bytes that are refused change nothing. The message is read in its flat form, since

@@ -35,12 +35,12 @@ module _ (bytes : List ℕ) (span : Span) (none nothing : Bor (List ℕ)) (e : n
   taken (Some rest) (Some x) g h =
       h.2 ∙ first _ _ ∙ ap (take span.size) (g.2 ∙ from_place bytes span.place) ∙ within bytes span (omega (arith, h.1, g.3))
 
--- The same by what each call answers.
+-- The same by what each call answers, the first of them for a range that ends where the bytes end.
 pub part_taken :
-    (bytes : List ℕ) (span : Span) (r s : Option (Bor (List ℕ))) (none nothing rest part : Bor (List ℕ)) →
-    Got bytes span.place (length bytes) r → rest ≡ unwrap_or r none →
+    (bytes : List ℕ) (span : Span) (to : ℕ) (r s : Option (Bor (List ℕ))) (none nothing rest part : Bor (List ℕ)) →
+    Got bytes span.place to r → to ≡ length bytes → rest ≡ unwrap_or r none →
     Got rest.now 0 span.size s → part ≡ unwrap_or s nothing →
     none.now ≡ [] → nothing.now ≡ [] → part.now ≡ part_of bytes span
-part_taken bytes span r s none nothing rest part g p h q e k =
+part_taken bytes span to r s none nothing rest part g end p h q e k =
     ap (λ (b : Bor (List ℕ)). b.now) q
-    ∙ taken bytes span none nothing e k r s g (subst (λ (b : Bor (List ℕ)). Got b.now 0 span.size s) p h)
+    ∙ taken bytes span none nothing e k r s (subst (λ (n : ℕ). Got bytes span.place n r) end g) (subst (λ (b : Bor (List ℕ)). Got b.now 0 span.size s) p h)

@@ -65,10 +65,11 @@ pub fn read(
     Ok(message_of(contents))
 }
 
-// The token or payload of a message: a part of the bytes that it was read from.
+// The token or payload of a message: a part of the bytes that it was read from. For a span outside them it is their first place with
+// no bytes, and no `&[]`, which lies elsewhere.
 pub fn part<'a>(bytes: &'a [u8], span: Span) -> &'a [u8]
     ensures { result.now ≡ part_of bytes.now span }
 {
-    let rest = bytes.get(span.place..).unwrap_or(&[]);
-    rest.get(..span.size).unwrap_or(&[])
+    let rest = bytes.get(span.place..).unwrap_or(&bytes[..0]);
+    rest.get(..span.size).unwrap_or(&bytes[..0])
 }

@@ -29,13 +29,14 @@ pub fn part<'a>(actions: Actions, payload: &'a [u8], cache: &'a [u8]) -> &'a [u8
     match slice {
         orders::OF_EVENT => front(payload, len),
         orders::OF_CACHE => front(cache, len),
-        _ => &[],
+        _ => front(payload, 0),
     }
 }
 
-// The first `len` bytes, or none where the slice is shorter than that.
+// The first `len` bytes, or none where the slice is shorter than that. No bytes are a part of the slice too, and no `&[]`: the part
+// that a host gets lies in a slice that it lent.
 fn front(bytes: &[u8], len: usize) -> &[u8]
     ensures { result.now ≡ spec.front len bytes.now }
 {
-    bytes.get(..len).unwrap_or(&[])
+    bytes.get(..len).unwrap_or(&bytes[..0])
 }

@@ -1,6 +1,7 @@
 -- `decision::decide` meets its contract.
-use mathlib.Core.Path.{◌≡◌, refl, sym, ap, ◌∙◌}
+use mathlib.Core.Path.{◌≡◌, refl, sym, ap, subst, ◌∙◌}
 use mathlib.Core.Bool.{Bool}
+use mathlib.Core.List.{List}
 use Prim.Native.Nat.{ℕ, ◌+◌, ◌<◌}
 use native.Mathlib.Omega.{arith}
 use Rattle.std.specs.Option.{option_map}
@@ -13,8 +14,11 @@ use Rattle.effects.specs.ByEvent.{by_event, by_locking, moving_code}
 use Rattle.guards.specs.Numbered.{refusal_numbered}
 use Rattle.protocol.specs.Condition.{next_state}
 use Rattle.protocol.specs.Step.{handled_to}
+use Rattle.protocol.specs.declared.Answer.{Answer}
+use Rattle.protocol.specs.declared.Outcome.{Outcome}
 use Rattle.table.specs.Cell.{following}
 use Rattle.table.specs.Table.{cell, settled}
+use Rattle.flat.specs.Written.{Written}
 use Rattle.flat.proofs.Written.{as_written}
 use Rattle.decision.specs.Also.{decided_also}
 use Rattle.decision.proofs.Also.{lowest, by_fault, by_table, by_number, by_late_fault, by_handling, locks, moves}
@@ -87,6 +91,16 @@ handles n late next none fits =
 abbrev numbered : Connection → Input → (to number : ℕ) → Transition
 numbered connection input to number = record { before = connection; input = input; to = to; number = number }
 
+-- What is done with the number's value, so that a number that isn't raised is refused for its value.
+module _ (connection : Connection) (code : ℕ) (input : Input) (to number : ℕ) where
+  locked : (o : Outcome) → o ≡ by_locking code (numbered connection input to number) → number ≡ connection.handled + 1
+      → o ≡ by_locking code (numbered connection input to (connection.handled + 1))
+  locked o e raised = e ∙ ap (λ (n : ℕ). by_locking code (numbered connection input to n)) raised
+
+  moved : (answer : Answer) (numbers slots : List ℕ) → Written (by_event (moving_code code) (numbered connection input to number)) answer numbers slots → number ≡ connection.handled + 1
+      → Written (by_event (moving_code code) (numbered connection input to (connection.handled + 1))) answer numbers slots
+  moved answer numbers slots w raised = subst (λ (n : ℕ). Written (by_event (moving_code code) (numbered connection input to n)) answer numbers slots) raised w
+
 pub returns-then-to-eq-CLOSED_LOCKED : goal.returns-then-to-eq-CLOSED_LOCKED
 returns-then-to-eq-CLOSED_LOCKED c =
     let at = goal.at.returns-then-to-eq-CLOSED_LOCKED c in
@@ -96,8 +110,7 @@ returns-then-to-eq-CLOSED_LOCKED c =
     handled_written _ _ _ _ (decided_also (option_map non_zero_u32_get c.args.also) c.args.connection c.args.code c.args.input) (next_state c.args.connection c.args.code c.args.input) c.args.connection c.args.code c.args.input
     (handles at.After-checked_add c.in_default-late.is next none c.in-Some-checked_add.ensures.0)
     (as_written _ _ _ _ _
-    (c.lock.ensures ∙
-    ap (λ (n : ℕ). by_locking c.args.code (numbered c.args.connection c.args.input to n)) c.in-Some-checked_add.ensures.1 ∙
+    (locked c.args.connection c.args.code c.args.input to _ _ c.lock.ensures (omega (arith, c.in-Some-checked_add.ensures.1)) ∙
     locks (option_map non_zero_u32_get c.args.also) c.args.connection c.args.code c.args.input none to next c.if-to-eq-CLOSED_LOCKED.true)
     c.put.ensures)
 
@@ -110,6 +123,5 @@ returns c =
     handled_written _ _ _ _ (decided_also (option_map non_zero_u32_get c.args.also) c.args.connection c.args.code c.args.input) (next_state c.args.connection c.args.code c.args.input) c.args.connection c.args.code c.args.input
     (handles at.After-checked_add c.in_default-late.is next none c.in-Some-checked_add.ensures.0)
     (as_written _ _ _ _ _
-    (ap (λ (n : ℕ). by_event (moving_code c.args.code) (numbered c.args.connection c.args.input to n)) c.in-Some-checked_add.ensures.1 ∙
-    moves (option_map non_zero_u32_get c.args.also) c.args.connection c.args.code c.args.input none to next c.if-to-eq-CLOSED_LOCKED.false)
-    c.move_on.ensures)
+    (moves (option_map non_zero_u32_get c.args.also) c.args.connection c.args.code c.args.input none to next c.if-to-eq-CLOSED_LOCKED.false)
+    (moved c.args.connection c.args.code c.args.input to _ _ _ _ c.move_on.ensures (omega (arith, c.in-Some-checked_add.ensures.1))))

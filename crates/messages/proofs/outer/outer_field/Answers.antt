@@ -3,6 +3,11 @@ use Rattle.fault.proofs.Passed.{passed_on}
 use Rattle.messages.proofs.Opening.{known, no_bytes, outer_faulty, outer_located, outer_mistyped, outer_unexpected}
 use Rattle.messages.proofs.outer.outer_field.Goals as goal
 
+pub returns : goal.returns
+returns c =
+    let some : length c.args.bytes.now ≢ 0 = search rules in
+    (known _ c.if-key.false, outer_located _ some _ _ (sym c.in_ok-key.ensures) c.if-key.false c.if-key-ne-LENGTH_DELIMITED.false)
+
 pub returns-then-is_empty : goal.returns-then-is_empty
 returns-then-is_empty c =
     let e : length c.args.bytes.now ≡ 0 = search rules in
@@ -22,8 +27,3 @@ pub returns-then-key-ne-LENGTH_DELIMITED : goal.returns-then-key-ne-LENGTH_DELIM
 returns-then-key-ne-LENGTH_DELIMITED c =
     let some : length c.args.bytes.now ≢ 0 = search rules in
     outer_mistyped _ some _ _ (sym c.in_ok-key.ensures) c.if-key.false c.if-key-ne-LENGTH_DELIMITED.true
-
-pub returns : goal.returns
-returns c =
-    let some : length c.args.bytes.now ≢ 0 = search rules in
-    (known _ c.if-key.false, outer_located _ some _ _ (sym c.in_ok-key.ensures) c.if-key.false c.if-key-ne-LENGTH_DELIMITED.false)
