@@ -1,28 +1,20 @@
--- What is read of a token and of the suites, in the form that the code reads it.
+-- When a choice of suites is refused, in the form that the code reads it.
 -- Assumes nothing.
-use mathlib.Core.Path.{◌≡◌, refl, sym, ap}
+use mathlib.Core.Path.{◌≡◌, refl}
 use mathlib.Core.Bool.{Bool, true, false, cond}
+use mathlib.Core.List.{List}
 use Prim.Native.Nat.{ℕ}
 use lib.Dec.{eqb}
-use Rattle.std.specs.Prelude.{Option, None, Some, Result, Ok, Err, is_some, unwrap_or, is_err}
-use Rattle.std.specs.Result.{result_unwrap_or}
-use Rattle.suites.specs.Numbers.{answer_of, suite_from}
-use Rattle.suites.specs.declared.Chosen.{Chosen}
-use Rattle.suites.specs.declared.TooLong.{TooLong}
-use Rattle.suites.proofs.Numbers.{suite_back}
+use Rattle.suites.specs.Answer.{Found, refused, chosen}
+use Rattle.suites.specs.Choice.{any_too_long, first_found, choice}
 
--- Seconds of which it is known whether the token is good, and how many they are.
-pub if_good : (seconds : Option ℕ) (is_good : Bool) (left : ℕ) → is_some seconds ≡ is_good → unwrap_or seconds 0 ≡ left → seconds ≡ cond is_good (Some left) None
-if_good None true left e f = cc
-if_good None false left e f = refl
-if_good (Some n) true left e f = ap Some f
-if_good (Some n) false left e f = cc
+refused_if : (too_long : Bool) (verifier prover : Found) → eqb (cond too_long refused (chosen verifier prover)).refusal 6 ≡ too_long
+refused_if true verifier prover = refl
+refused_if false verifier prover = refl
 
--- A choice, and whether it is refused.
-pub too_long_read : (suites : Result Chosen TooLong) → is_err suites ≡ eqb (answer_of suites).refusal 6
-too_long_read (Ok suites) = refl
-too_long_read (Err fault) = refl
-
-pub suites_read : (suites : Result Chosen TooLong) → result_unwrap_or suites (record { verifier = None; prover = None }) ≡ record { verifier = suite_from (answer_of suites).verifier; prover = suite_from (answer_of suites).prover }
-suites_read (Ok suites) = sym (λ i. record { verifier = suite_back suites.verifier i; prover = suite_back suites.prover i })
-suites_read (Err fault) = refl
+-- A choice is refused just where a list is too long.
+pub refused_if_too_long : (our_verifiers peer_provers peer_verifiers our_provers : List ℕ) →
+    eqb (choice our_verifiers peer_provers peer_verifiers our_provers).refusal 6 ≡ any_too_long our_verifiers peer_provers peer_verifiers our_provers
+unfolding choice
+refused_if_too_long our_verifiers peer_provers peer_verifiers our_provers =
+    refused_if (any_too_long our_verifiers peer_provers peer_verifiers our_provers) (first_found our_verifiers peer_provers) (first_found peer_verifiers our_provers)

@@ -1,14 +1,13 @@
 -- Document 01, "What the machine covers": the arguments of a call, and what the step reads of them.
-use Rattle.std.specs.Prelude.{ℕ, Bool, ◌&&◌, cond, List, [], ◌∷◌, eqb, ltb, length, is_some}
-use Rattle.suites.specs.Answer.{Answer, not_found, chosen}
-use Rattle.suites.specs.Choice.{choice}
-use Rattle.suites.specs.Numbers.{suite_from}
-use Rattle.suites.specs.declared.Chosen.{Chosen}
+use Rattle.std.specs.Prelude.{ℕ, Bool, false, ◌&&◌, cond, List, [], ◌∷◌, eqb, ltb, length}
+use Rattle.suites.specs.Answer.{Answer}
+use Rattle.suites.specs.Choice.{any_too_long, choice}
 use Rattle.suites.specs.declared.Lists.{Lists}
 use Rattle.record.specs.Limits.{Limits}
 use Rattle.table.specs.Sets.{is_in}
-use Rattle.event.specs.Kind.{kind_of, fields_of, seconds_of}
+use Rattle.event.specs.Kind.{kind_of, fields_of}
 use Rattle.event.specs.declared.Event.{Event}
+use Rattle.event.specs.declared.Suites.{Suites}
 use Rattle.event.specs.declared.Input.{Input}
 
 -- One call: the event, its payload and the four suite lists. The record and the cache are not in it.
@@ -40,32 +39,43 @@ call_with event payload lists =
 abbrev pub carries_payload : ℕ → Bool
 carries_payload = is_in (2 ∷ 6 ∷ 9 ∷ 15 ∷ 16 ∷ 18 ∷ [])
 
--- What is read of the lists: at event 11, which alone carries them, the choice of the suites layer; else none is too long, and nothing is found.
-abbrev pub suites_of : ℕ → List ℕ → List ℕ → List ℕ → List ℕ → Answer
-suites_of code our_verifiers peer_provers peer_verifiers our_provers =
-    cond (eqb code 11) (choice our_verifiers peer_provers peer_verifiers our_provers) (chosen not_found not_found)
+-- No lists: nothing too long, nothing found.
+abbrev pub no_suites : Suites
+no_suites = record { too_long = false; found = false; verifier = 0; prover = 0 }
 
--- Whether both suites are found.
-abbrev pub both_found : Chosen → Bool
-both_found suites = is_some suites.verifier && is_some suites.prover
+-- Both suites by the choice of the suites layer, and whether a list is too long.
+abbrev pub chosen_suites : Bool → Answer → Suites
+chosen_suites too_long answer = record {
+  too_long = too_long;
+  found = answer.verifier.found && answer.prover.found;
+  verifier = answer.verifier.suite;
+  prover = answer.prover.suite;
+}
+
+-- Event 11 alone carries the four lists.
+abbrev pub suites_of : ℕ → List ℕ → List ℕ → List ℕ → List ℕ → Suites
+suites_of code our_verifiers peer_provers peer_verifiers our_provers =
+    cond (eqb code 11)
+    (chosen_suites (any_too_long our_verifiers peer_provers peer_verifiers our_provers) (choice our_verifiers peer_provers peer_verifiers our_provers))
+    no_suites
 
 -- The length of a payload. One that is too long counts as 0: its event is refused, or carries no payload and this is not used.
 abbrev pub short_length : Limits → ℕ → ℕ
 short_length limits size = cond (ltb limits.payload size) 0 size
 
 -- What the step reads, besides the code: the fields by the event's kind, the lengths of payload and cache, the suites.
-unfoldable pub input_by : Limits → Event → (payload_length cache_length : ℕ) → Answer → Input
+unfoldable pub input_by : Limits → Event → (payload_length cache_length : ℕ) → Suites → Input
 input_by limits event payload_length cache_length suites = record {
   tag = (fields_of (kind_of event)).tag;
   timer = (fields_of (kind_of event)).timer;
   bit = (fields_of (kind_of event)).bit;
-  seconds = seconds_of (fields_of (kind_of event));
+  good = (fields_of (kind_of event)).is_good;
+  seconds = (fields_of (kind_of event)).seconds;
   margin_too_large = (fields_of (kind_of event)).large_margin;
   payload_len = short_length limits payload_length;
   payload_too_long = carries_payload event.code && ltb limits.payload payload_length;
   cache_too_short = ltb cache_length limits.payload;
-  list_too_long = eqb suites.refusal 6;
-  suites = record { verifier = suite_from suites.verifier; prover = suite_from suites.prover };
+  suites = suites;
 }
 
 -- What the step reads of a call.

@@ -1,6 +1,6 @@
 -- Document 01, "What the machine covers" and "Shortcuts that look right", and request #104: the kind of an event, which its code fixes.
 -- A field is read only from the kind that carries it. Payload and suite lists are slices: see `Call`.
-use Rattle.std.specs.Prelude.{ℕ, Bool, false, cond, List, [], ◌∷◌, eqb, get_or, Option, None, Some}
+use Rattle.std.specs.Prelude.{ℕ, Bool, false, cond, List, [], ◌∷◌, eqb, get_or}
 use Rattle.record.specs.Timer.{Timer, H, HP, HV}
 use Rattle.token.specs.Answer.{time_left}
 use Rattle.token.specs.Good.{good, good_seconds}
@@ -61,10 +61,6 @@ fields_of (Bit bit) = fields 0 0 bit false 0 false
 fields_of (Token token) =
     let left = (time_left token.expiry token.now token.margin).seconds in
     fields 0 0 0 (good token.verdict left) (good_seconds token.verdict left) (margin_too_large token.margin)
-
--- The seconds left as the code reads them: those of a good token alone.
-abbrev pub seconds_of : Fields → Option ℕ
-seconds_of fields = cond fields.is_good (Some fields.seconds) None
 
 -- The handshake timer that event 20 names: 0 H, 1 HP, 2 HV.
 abbrev pub named : ℕ → Timer

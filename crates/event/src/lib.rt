@@ -2,10 +2,10 @@
 // and a field is read only from the kind that carries it.
 #![tactic(auto)]
 
-ghost use Rattle.std.specs.Prelude.{◌≡◌, ◌&&◌, ltb};
+ghost use Rattle.std.specs.Prelude.{◌≡◌, ◌&&◌, eqb, ltb, is_some, unwrap_or};
 ghost use Rattle.record.specs.Limits.{limits};
-ghost use Rattle.event.specs.Kind.{kind_of, fields_of, seconds_of};
-ghost use Rattle.event.specs.Call.{suites_of, carries_payload, short_length, input_by};
+ghost use Rattle.event.specs.Kind.{kind_of, fields_of};
+ghost use Rattle.event.specs.Call.{chosen_suites, suites_of, carries_payload, short_length, input_by};
 ghost use Rattle.suites.specs.Numbers.{answer_of};
 
 use suites::{Chosen, Lists, TooLong};
@@ -42,10 +42,21 @@ pub enum EventKind {
     Token(Token),
 }
 
-// Nothing is chosen.
-const NO_SUITES: Chosen = Chosen {
-    verifier: None,
-    prover: None,
+// The suites of a hello, whether both are found, and whether a list is too long. They are numbers and flags and no Option, since the
+// functions of the step that are given an `Input` promise an answer for each combination of them.
+#[derive(Clone, Copy, Debug, PartialEq, Eq)]
+pub struct Suites {
+    pub too_long: bool,
+    pub found: bool,
+    pub verifier: u32,
+    pub prover: u32,
+}
+
+const NO_SUITES: Suites = Suites {
+    too_long: false,
+    found: false,
+    verifier: 0,
+    prover: 0,
 };
 
 // What the step reads of a call, besides the code.
@@ -54,16 +65,16 @@ pub struct Input {
     pub tag: u32,
     pub timer: u32,
     pub bit: u32,
-    // Those of a good token.
-    pub seconds: Option<u32>,
-    // This fault, the payload's and the lists' are tests of their own, as the papers list them: with a Result in its place each reader of
-    // the value would first take apart what is refused before it is read.
+    // Whether the token is good, and its seconds then. They are a flag and a number for the same reason.
+    pub good: bool,
+    pub seconds: u32,
+    // This fault and the payload's are tests of their own, as the papers list them: with a Result in its place each reader of the value
+    // would first take apart what is refused before it is read.
     pub margin_too_large: bool,
     pub payload_len: u32,
     pub payload_too_long: bool,
     pub cache_too_short: bool,
-    pub list_too_long: bool,
-    pub suites: Chosen,
+    pub suites: Suites,
 }
 
 impl Event {
@@ -119,9 +130,9 @@ impl EventKind {
     }
 
     // The seconds left of a good token.
-    #[tactic(auto, using(crate::proofs::Opening::if_good))]
     fn seconds(self) -> Option<u32>
-        ensures { result ≡ seconds_of (fields_of self) }
+        ensures good { is_some result ≡ (fields_of self).is_good }
+        ensures seconds { unwrap_or result 0 ≡ (fields_of self).seconds }
     {
         let EventKind::Token(token) = self else {
             return None;
@@ -141,13 +152,32 @@ impl EventKind {
 }
 
 // The suites of a hello; of another event the lists are not read.
-pub fn choose_suites(code: u32, lists: Lists<'_>) -> Result<Chosen, TooLong>
-    ensures { answer_of result ≡ suites_of code lists.entry.our_verifiers.now lists.entry.peer_provers.now lists.entry.peer_verifiers.now lists.entry.our_provers.now }
+#[tactic(auto, using(crate::proofs::Opening::refused_if_too_long))]
+pub fn choose_suites(code: u32, lists: Lists<'_>) -> Suites
+    ensures { result ≡ suites_of code lists.entry.our_verifiers.now lists.entry.peer_provers.now lists.entry.peer_verifiers.now lists.entry.our_provers.now }
 {
     if code != SC_HELLO {
-        return Ok(NO_SUITES);
+        return NO_SUITES;
     }
-    lists.choose()
+    suites_in(lists.choose())
+}
+
+// The suites of a choice.
+fn suites_in(choice: Result<Chosen, TooLong>) -> Suites
+    ensures { result ≡ chosen_suites (eqb (answer_of choice).refusal 6) (answer_of choice) }
+{
+    let Ok(Chosen { verifier, prover }) = choice else {
+        return Suites {
+            too_long: true,
+            ..NO_SUITES
+        };
+    };
+    Suites {
+        too_long: false,
+        found: verifier.is_some() & prover.is_some(),
+        verifier: verifier.unwrap_or(0),
+        prover: prover.unwrap_or(0),
+    }
 }
 
 fn carries_payload(code: u32) -> bool
@@ -177,26 +207,22 @@ fn payload_too_long(code: u32, len: usize) -> bool
 }
 
 // What the step reads of a call.
-#[tactic(auto, using(crate::proofs::Opening::too_long_read, crate::proofs::Opening::suites_read), unfolding(crate::specs::Call::input_by))]
-pub fn read(
-    event: Event,
-    payload_len: usize,
-    cache_len: usize,
-    suites: Result<Chosen, TooLong>,
-) -> Input
-    ensures { result ≡ input_by limits event payload_len cache_len (answer_of suites) }
+#[tactic(auto, unfolding(crate::specs::Call::input_by))]
+pub fn read(event: Event, payload_len: usize, cache_len: usize, suites: Suites) -> Input
+    ensures { result ≡ input_by limits event payload_len cache_len suites }
 {
     let kind = event.kind();
+    let seconds = kind.seconds();
     Input {
         tag: kind.tag(),
         timer: kind.timer(),
         bit: kind.bit(),
-        seconds: kind.seconds(),
+        good: seconds.is_some(),
+        seconds: seconds.unwrap_or(0),
         margin_too_large: kind.margin_too_large(),
         payload_len: short_len(payload_len),
         payload_too_long: payload_too_long(event.code, payload_len),
         cache_too_short: cache_len < MAX_PAYLOAD,
-        list_too_long: suites.is_err(),
-        suites: suites.unwrap_or(NO_SUITES),
+        suites,
     }
 }

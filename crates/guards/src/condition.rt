@@ -41,9 +41,8 @@ pub fn holds(connection: Connection, code: u32, input: Input) -> bool
     match code {
         RA_VERIFIER_OK..=RA_VERIFIER_MSG => live(input.tag, connection.verifier),
         RA_PROVER_OK..=RA_PROVER_MSG => live(input.tag, connection.prover),
-        SC_HELLO => input.seconds.is_some()
-            & (input.suites.verifier.is_some() & input.suites.prover.is_some()),
-        SC_DAT => input.seconds.is_some(),
+        SC_HELLO => input.good & input.suites.found,
+        SC_DAT => input.good,
         SC_DATA => input.bit == connection.expected_bit,
         SC_ACK => (connection.awaiting_ack == 1) & (input.bit == connection.next_send_bit),
         HANDSHAKE_TIMEOUT => live(input.tag, handshake_tag(connection, input.timer)),

@@ -32,7 +32,7 @@ pub fn lowest_fault(connection: Connection, code: u32, input: Input) -> Option<u
     if input.cache_too_short {
         return Some(refusals::CACHE_TOO_SHORT);
     }
-    if input.list_too_long {
+    if input.suites.too_long {
         return Some(refusals::LIST_TOO_LONG);
     }
     if !well_formed(connection) {

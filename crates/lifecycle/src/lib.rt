@@ -48,9 +48,9 @@ pub fn open_connection(transition: Transition) -> Outcome
             hp: orders::START,
             hv: orders::START,
             dat: orders::START,
-            dat_seconds: input.seconds.unwrap_or(0),
-            verifier_suite: input.suites.verifier.unwrap_or(0),
-            prover_suite: input.suites.prover.unwrap_or(0),
+            dat_seconds: input.seconds,
+            verifier_suite: input.suites.verifier,
+            prover_suite: input.suites.prover,
             ..NO_ACTIONS
         },
     )

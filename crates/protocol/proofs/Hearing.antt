@@ -7,8 +7,6 @@ use Prim.Native.Nat.{ℕ, ◌<◌}
 use native.Mathlib.Omega.{arith}
 use lib.Dec.{T, eqb}
 use borrow.Author.Tests.{eqb-true, ne_eqb}
-use Rattle.std.specs.Prelude.{is_some}
-use Rattle.event.specs.Call.{both_found}
 use Rattle.record.specs.Limits.{Limits}
 use Rattle.record.specs.Tags.{tag_of}
 use Rattle.record.specs.WellFormed.{flag_fits}
@@ -75,8 +73,8 @@ none_at_9 s false true e f t = absurd t
 module _ (limits : Limits) (size : ℕ) (history : History) (connection : Connection) (cache : List ℕ) (R : Follows limits size history connection cache) (input : Input) where
   pub hearing : (condition : Condition) → T (related history.notes condition (meets connection input condition) (heard_at (hear history input) condition))
   hearing (live x) = live_law (runs history.notes x) input.tag (history.since x) (tag_of connection x) (R.tag x) (R.started x)
-  hearing good_hello = beq_refl (is_some input.seconds && both_found input.suites)
-  hearing good_token = beq_refl (is_some input.seconds)
+  hearing good_hello = beq_refl (input.good && input.suites.found)
+  hearing good_token = beq_refl input.good
   hearing expected_bit = bit_law (eqb (stands history) 9) input.bit connection.expected_bit history.expected R.expected
   hearing next_send_bit =
       waiting_law (eqb (stands history) 9) history.notes.waiting connection.awaiting_ack input.bit connection.next_send_bit history.next_send R.flag R.next_send

@@ -1,5 +1,5 @@
 -- Document 01, "Order sheet" and "Timers": the actions that a handled event orders.
-use Rattle.std.specs.Prelude.{ℕ, Bool, false, not, ◌&&◌, cond, [], ◌∷◌, eqb, unwrap_or}
+use Rattle.std.specs.Prelude.{ℕ, Bool, false, not, ◌&&◌, cond, [], ◌∷◌, eqb}
 use Rattle.protocol.specs.Orders as order
 use Rattle.table.specs.Sets.{is_in}
 use Rattle.event.specs.Call.{carries_payload}
@@ -109,11 +109,11 @@ moving_actions orders connection code input = record {
   dat = orders DAT;
   ra = orders RA;
   ack = orders ACK;
-  dat_seconds = cond (eqb (orders DAT) order.start) (unwrap_or input.seconds 0) 0;
+  dat_seconds = cond (eqb (orders DAT) order.start) input.seconds 0;
   bit = bit_of code connection.next_send_bit input.bit;
   deliver = eqb code 18;
-  verifier_suite = cond (eqb code 11) (unwrap_or input.suites.verifier 0) 0;
-  prover_suite = cond (eqb code 11) (unwrap_or input.suites.prover 0) 0;
+  verifier_suite = cond (eqb code 11) input.suites.verifier 0;
+  prover_suite = cond (eqb code 11) input.suites.prover 0;
   payload_slice = source_of code;
   payload_len = length_of code connection.cached_len input.payload_len;
 }

@@ -1,6 +1,5 @@
 -- Document 01, "The record and its tags" and "The published table": the condition of each event, and the state that follows.
-use Rattle.std.specs.Prelude.{ℕ, Bool, true, not, ◌&&◌, List, [], ◌∷◌, eqb, get_or, is_some}
-use Rattle.event.specs.Call.{both_found}
+use Rattle.std.specs.Prelude.{ℕ, Bool, true, not, ◌&&◌, List, [], ◌∷◌, eqb, get_or}
 use Rattle.event.specs.Kind.{named}
 use Rattle.table.specs.Table.{cell, settled}
 use Rattle.record.specs.Tags.{tag_of}
@@ -36,8 +35,8 @@ is_live tag own = not (eqb tag 0) && eqb tag own
 -- Whether a condition holds for the record and the event.
 abbrev pub meets : Connection → Input → Condition → Bool
 meets connection input (live timer) = is_live input.tag (tag_of connection timer)
-meets connection input good_hello = is_some input.seconds && both_found input.suites
-meets connection input good_token = is_some input.seconds
+meets connection input good_hello = input.good && input.suites.found
+meets connection input good_token = input.good
 meets connection input expected_bit = eqb input.bit connection.expected_bit
 meets connection input next_send_bit = eqb connection.awaiting_ack 1 && eqb input.bit connection.next_send_bit
 meets connection input nothing = true

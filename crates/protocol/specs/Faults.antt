@@ -10,7 +10,7 @@ early_faults code input =
     ∷ ltb 1 input.bit
     ∷ input.payload_too_long
     ∷ input.cache_too_short
-    ∷ input.list_too_long
+    ∷ input.suites.too_long
     ∷ []
 
 -- Fault 9, which is checked after 7 and 8.

@@ -1,8 +1,8 @@
 -- Document 01, "The five notes": the history of a connection, kept from the calls' arguments and the cache's length alone.
 -- It reads no record, no state and no table; only `state_of` and its parts, at the end, name states. With the step it shares what the
 -- arguments mean: `input_of`, `named`, and the faults of the arguments with their order.
-use Rattle.std.specs.Prelude.{ℕ, ◌+◌, ◌-◌, Bool, true, false, not, ◌&&◌, ◌||◌, cond, List, [], ◌∷◌, eqb, is_some}
-use Rattle.event.specs.Call.{Call, both_found, input_of}
+use Rattle.std.specs.Prelude.{ℕ, ◌+◌, ◌-◌, Bool, true, false, not, ◌&&◌, ◌||◌, cond, List, [], ◌∷◌, eqb}
+use Rattle.event.specs.Call.{Call, input_of}
 use Rattle.event.specs.Kind.{named}
 use Rattle.record.specs.Limits.{Limits}
 use Rattle.record.specs.Timer.{Timer, H, HP, HV, DAT, RA, ACK}
@@ -180,8 +180,8 @@ abbrev pub hear : History → Input → Heard
 hear history input = record {
   live = λ timer. runs history.notes timer && eqb input.tag (history.since timer);
   named = named input.timer;
-  good_hello = is_some input.seconds && both_found input.suites;
-  good_token = is_some input.seconds;
+  good_hello = input.good && input.suites.found;
+  good_token = input.good;
   expected_bit = eqb input.bit history.expected;
   next_send_bit = eqb input.bit history.next_send;
 }

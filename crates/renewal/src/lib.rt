@@ -93,7 +93,7 @@ pub fn renew_token(transition: Transition) -> Outcome
             h: orders::CANCEL,
             hv: orders::START,
             dat: orders::START,
-            dat_seconds: transition.input.seconds.unwrap_or(0),
+            dat_seconds: transition.input.seconds,
             ..NO_ACTIONS
         },
     )

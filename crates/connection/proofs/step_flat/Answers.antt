@@ -4,7 +4,7 @@ use lib.ListN.{length}
 use Rattle.std.specs.Option.{option_map}
 use Rattle.std.specs.Int.NonZero.{non_zero_u32_get}
 use Rattle.event.specs.Call.{Call, call_with, input_by, input_of}
-use Rattle.suites.specs.Answer.{Answer}
+use Rattle.event.specs.declared.Suites.{Suites}
 use Rattle.record.specs.Numbers.{record_in}
 use Rattle.record.specs.Limits.{limits}
 use Rattle.record.specs.declared.Connection.{Connection}
@@ -23,7 +23,7 @@ module _ (d : After-decide-answer) where
 
   -- The input that was read is the call's.
   is_read : d.read-input.result ≡ input_of limits call (length d.args.cache.now)
-  is_read = d.read-input.ensures ∙ ap (λ (suites : Answer). input_by limits call.event (length call.payload) (length d.args.cache.now) suites) d.choose_suites-suites.ensures
+  is_read = d.read-input.ensures ∙ ap (λ (suites : Suites). input_by limits call.event (length call.payload) (length d.args.cache.now) suites) d.choose_suites-suites.ensures
 
 pub returns-in_default : goal.returns-in_default
 returns-in_default c =
