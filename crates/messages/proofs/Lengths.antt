@@ -3,7 +3,7 @@ use mathlib.Core.Path.{◌≡◌}
 use mathlib.Core.List.{List, append-nil}
 use Prim.Native.Nat.{ℕ, ◌-◌, ◌≤◌}
 use native.Mathlib.Omega.{arith}
-use lib.ListN.{length, take}
+use lib.ListN.{length, take, length-append, length-take, length-replicate}
 use mathlib.Core.Bool.{Bool, true, false, cond}
 use lib.Dec.{eqb}
 use Rattle.fault.specs.Fault.{Reading, read_as, refused}
@@ -12,6 +12,9 @@ use Rattle.wire.proofs.Lists.{length_padded}
 use Rattle.fields.specs.Message as spec
 use Rattle.fields.specs.Contents.{provers_after, verifiers_after}
 use Rattle.messages.specs.Flat.{flat_in}
+
+pub length_entries : (count : ℕ) (list : List ℕ) → length (entries count list) ≡ count
+length_entries count list = rw (length-append, length-take, length-replicate) (omega arith)
 
 -- A list of sixteen has every entry that is counted.
 pub all_there : (count : ℕ) (list : List ℕ) → length list ≡ 16 → count ≤ 16 → entries count list ≡ take count list

@@ -109,6 +109,8 @@ module _ (message : List ℕ) (place number next : ℕ) (e : number_at message p
   after_read = subst (Stands message place) e (stands message place)
 
   -- A part of so many bytes.
+  pub runs_past : length message - next < number → faulty 21 ≡ block_at message place
+  runs_past h = rw (e, lt-ltb (length message) (next + number) (omega (arith, after_read.1)))
 
   pub within : number ≤ length message - next → block next number ≡ block_at message place
   within h = rw (e, le-ltb (length message) (next + number) (omega (arith, after_read.1)))

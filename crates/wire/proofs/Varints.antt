@@ -48,6 +48,10 @@ module _ (bytes : List ℕ) (low scale at : ℕ) where
         joined b cut = refl
         joined b endless = refl
 
+-- The weight of a byte's lowest bit, behind `at` bytes.
+pub light : (at scale : ℕ) → at < 9 → scale ≡ 128 ^ at → scale ≤ 72057594037927936
+light at scale h weight = rw (weight) (pow-le-pow_right {n = 128} (omega arith) {i = at} {j = 8} (omega arith))
+
 -- The weight of a byte's lowest bit, behind one byte more.
 pub heavier : (at scale : ℕ) → scale ≡ 128 ^ at → scale * 128 ≡ 128 ^ (at + 1)
 heavier at scale weight = rw (add-one at, weight, pow-suc)
