@@ -65,7 +65,7 @@ pub struct Input {
     pub tag: u32,
     pub timer: u32,
     pub bit: u32,
-    // Whether the token is good, and its seconds then. They are a flag and a number for the same reason.
+    // Whether the token is good, and its seconds then: a flag and a number, for the reason that `Suites` gives.
     pub good: bool,
     pub seconds: u32,
     // This fault and the payload's are tests of their own, as the papers list them: with a Result in its place each reader of the value

@@ -65,8 +65,8 @@ pub fn read(
     Ok(message_of(contents))
 }
 
-// The token or payload of a message: a part of the bytes that it was read from. For a span outside them it is their first place with
-// no bytes, and no `&[]`, which lies elsewhere.
+// The token or payload of a message: a part of the bytes that it was read from. For a span that is not in them the part is empty, and
+// lies where they begin; a `&[]` would lie elsewhere.
 pub fn part<'a>(bytes: &'a [u8], span: Span) -> &'a [u8]
     ensures { result.now ≡ part_of bytes.now span }
 {

@@ -33,8 +33,8 @@ pub fn part<'a>(actions: Actions, payload: &'a [u8], cache: &'a [u8]) -> &'a [u8
     }
 }
 
-// The first `len` bytes, or none where the slice is shorter than that. No bytes are a part of the slice too, and no `&[]`: the part
-// that a host gets lies in a slice that it lent.
+// The first `len` bytes, or none where the slice is shorter than that. An empty part lies in the slice too, where a `&[]` would not:
+// the part that a host gets is a part of what it lent.
 fn front(bytes: &[u8], len: usize) -> &[u8]
     ensures { result.now ≡ spec.front len bytes.now }
 {

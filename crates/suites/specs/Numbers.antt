@@ -1,5 +1,5 @@
 -- Document 01, "The forms we expect": the paper's number and values for each case of what the code answers with.
-use Rattle.std.specs.Prelude.{ℕ, cond, Option, None, Some, Result, Ok, Err}
+use Rattle.std.specs.Prelude.{ℕ, Option, None, Some, Result, Ok, Err}
 use Rattle.suites.specs.Answer.{Found, found_suite, not_found, Answer, refused, chosen}
 use Rattle.suites.specs.declared.Chosen.{Chosen}
 use Rattle.suites.specs.declared.TooLong.{TooLong}
@@ -8,10 +8,6 @@ use Rattle.suites.specs.declared.TooLong.{TooLong}
 abbrev pub found_of : Option ℕ → Found
 found_of (Some number) = found_suite number
 found_of None = not_found
-
--- And back: what was found, as the code holds it.
-abbrev pub suite_from : Found → Option ℕ
-suite_from f = cond f.found (Some f.suite) None
 
 -- The whole answer, in document 01's values.
 abbrev pub answer_of : Result Chosen TooLong → Answer
