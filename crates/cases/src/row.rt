@@ -28,8 +28,11 @@ pub(crate) fn answer<W: Write>(
     match word {
         b"seconds" => Some(seconds::Row::read(row)?.answer(out)),
         b"suites" => Some(choice::Row::read(row)?.answer(out)),
-        b"message" => Some(message::Row::read(row, &mut buffers.first)?.answer(out)),
-        b"step" => Some(step::Row::read(row, &mut buffers.first, &mut buffers.second)?.answer(out)),
+        b"message" => Some(message::LentRow::read(row, &mut buffers.first)?.answer(out)),
+        b"step" => {
+            let row = step::LentRow::read(row, &mut buffers.first, &mut buffers.second)?;
+            Some(row.answer(out))
+        }
         _ => None,
     }
 }
