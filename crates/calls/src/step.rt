@@ -141,12 +141,14 @@ mod tests {
     use super::*;
     use std::test::Fail;
 
-    // A block is sent in state 7, and kept: row and answer stand in stdin and stdout of the program `cases`.
+    // A block of five bytes is sent in state 7. The row stands in stdin of the program `cases`, and its answer in stdout.
+    const BLOCK: &[u8] =
+        b" 7 0 0 0 0 4 0 0 0 2 4 0 ; 2 0 0 0 0 0 0 0 ; 0102030405 ; 4096*00 ; ; ; ;";
+
     #[test]
     fn owned_row_is_kept_and_answered(rt: HostRuntime) -> Result<(), Fail> {
-        let text = b" 7 0 0 0 0 4 0 0 0 2 4 0 ; 2 0 0 0 0 0 0 0 ; 0102030405 ; 4096*00 ; ; ; ;";
-        let row = Row::read(text).ok_or("not understood")?;
-        assert!(rt; row == Row::read(text).ok_or("not understood")?);
+        let row = Row::read(BLOCK).ok_or("not understood")?;
+        assert!(rt; row == Row::read(BLOCK).ok_or("not understood")?);
         let mut out: ArrayVec<u8, 256> = ArrayVec::new();
         row.answer(&mut out)?;
         let answer =
@@ -158,10 +160,9 @@ mod tests {
     // Five bytes and 4,096 in buffers that have room for just as many, and the first buffer a byte smaller.
     #[test]
     fn lent_row_needs_room_for_its_bytes(rt: HostRuntime) {
-        let text = b" 7 0 0 0 0 4 0 0 0 2 4 0 ; 2 0 0 0 0 0 0 0 ; 0102030405 ; 4096*00 ; ; ; ;";
         let mut cache = [1; 4096];
-        assert!(rt; LentRow::read(text, &mut [0; 5], &mut cache).is_some());
-        assert!(rt; LentRow::read(text, &mut [0; 4], &mut cache).is_none());
+        assert!(rt; LentRow::read(BLOCK, &mut [0; 5], &mut cache).is_some());
+        assert!(rt; LentRow::read(BLOCK, &mut [0; 4], &mut cache).is_none());
     }
 
     // The most bytes of a group, and one more.

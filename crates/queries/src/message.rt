@@ -66,12 +66,13 @@ mod tests {
     use super::*;
     use std::test::Fail;
 
-    // A hello with two prover suites and one verifier suite: row and answer stand in stdin and stdout of the program `cases`.
+    // A hello with two prover suites and one verifier suite. The row stands in stdin of the program `cases`, and its answer in stdout.
+    const HELLO: &[u8] = b" 0a0b 0a020708 12020703 1a0103";
+
     #[test]
     fn owned_row_is_kept_and_answered(rt: HostRuntime) -> Result<(), Fail> {
-        let text = b" 0a0b 0a020708 12020703 1a0103";
-        let row = Row::read(text).ok_or("not understood")?;
-        assert!(rt; row == Row::read(text).ok_or("not understood")?);
+        let row = Row::read(HELLO).ok_or("not understood")?;
+        assert!(rt; row == Row::read(HELLO).ok_or("not understood")?);
         let mut out: ArrayVec<u8, 256> = ArrayVec::new();
         row.answer(&mut out)?;
         let answer =
@@ -83,9 +84,8 @@ mod tests {
     // Thirteen bytes in a buffer that has room for just as many, and in one a byte smaller.
     #[test]
     fn lent_row_needs_room_for_its_bytes(rt: HostRuntime) {
-        let text = b" 0a0b 0a020708 12020703 1a0103";
-        assert!(rt; LentRow::read(text, &mut [0; 13]).is_some());
-        assert!(rt; LentRow::read(text, &mut [0; 12]).is_none());
+        assert!(rt; LentRow::read(HELLO, &mut [0; 13]).is_some());
+        assert!(rt; LentRow::read(HELLO, &mut [0; 12]).is_none());
     }
 
     // The most bytes of a group, and one more.
